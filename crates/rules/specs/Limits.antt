@@ -1,0 +1,53 @@
+-- Every limit of document 01, in the order of its table. This is the one home of each on the proof side: the associated constants of
+-- the table type are proved equal to these (crate `table`), and nothing else repeats a numeral.
+use Prim.Native.Nat.{ℕ}
+
+-- from and to, both allowed
+pub record Range : Type 0 where
+  pub from : ℕ
+  pub to : ℕ
+
+abbrev pub tableBytes : Range
+tableBytes = record { from = 0; to = 4096 }
+
+abbrev pub processors : Range
+processors = record { from = 1; to = 8 }
+
+abbrev pub rounds : Range
+rounds = record { from = 1; to = 64 }
+
+abbrev pub graphs : Range
+graphs = record { from = 1; to = 8 }
+
+abbrev pub period : Range
+period = record { from = 1; to = 10000 }
+
+abbrev pub budget : Range
+budget = record { from = 1; to = 10000 }
+
+abbrev pub offset : Range
+offset = record { from = 0; to = 10000 }
+
+-- nodes of a graph, and of all graphs
+abbrev pub nodes : Range
+nodes = record { from = 1; to = 16 }
+
+abbrev pub allNodes : Range
+allNodes = record { from = 1; to = 32 }
+
+abbrev pub level : Range
+level = record { from = 1; to = 4 }
+
+abbrev pub hyperperiod : Range
+hyperperiod = record { from = 1; to = 20000 }
+
+-- a predecessor's number, below that of a node
+abbrev pub predecessor : Range
+predecessor = record { from = 1; to = 15 }
+
+-- the most pending server jobs of a server, and unfinished invocations of a graph, that are no backlog
+abbrev pub pending : ℕ
+pending = 16
+
+abbrev pub unfinished : ℕ
+unfinished = 64
