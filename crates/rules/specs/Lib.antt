@@ -8,3 +8,10 @@ pub mod State
 pub mod Walk
 pub mod WellFormed
 pub mod Demands
+pub mod Bytes
+pub mod Refusals
+pub mod Keys
+pub mod Spelling
+pub mod Reading
+pub mod Answers
+pub mod Worked

@@ -23,6 +23,12 @@ pub record Stopped : Type 0 where
   pub how : Stop
   pub ticks : ℕ
 
+-- what a walk gives: how and when it stopped, and the figure of each graph
+pub record Walked : Type 0 where
+  pub how : Stop
+  pub ticks : ℕ
+  pub figures : List ℕ
+
 -- a running server job: graph, node, server job, invocation (0 for an unlinked one)
 pub record Running : Type 0 where
   pub graph : ℕ
@@ -93,6 +99,10 @@ module _ (X : Box) (need : ℕ → ℕ → ℕ) where
   -- the figure of each graph, by its sink, over the invocations finished at or before t
   unfoldable pub figures : ℕ → List ℕ
   figures t = map (λ (i : ℕ). figure i t) (X .sinks)
+
+  -- the whole of a walk
+  unfoldable pub walked : Walked
+  walked = record { how = stopped .how; ticks = stopped .ticks; figures = figures (stopped .ticks) }
 
   unfoldable pub runningAt : ℕ → ServerJob → Running
   runningAt t x =

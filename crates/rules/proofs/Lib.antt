@@ -1,0 +1,2 @@
+pub mod OnePass
+pub mod Worked
