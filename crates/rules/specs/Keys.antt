@@ -28,8 +28,12 @@ keys =
     ∷ key "after" Limits.predecessor
     ∷ []
 
+-- what stands past the last one
+abbrev pub noKey : Key
+noKey = key "" (record { from = 0; to = 0 })
+
 abbrev pub keyAt : ℕ → Key
-keyAt k = getD keys k (key "" (record { from = 0; to = 0 }))
+keyAt k = getD keys k noKey
 
 -- the place of each in the list
 abbrev pub processors : ℕ

@@ -1,6 +1,6 @@
 -- Every limit of document 01, in the order of its table. This is the one home of each on the proof side: the associated constants of
 -- the table type are proved equal to these (crate `table`), and nothing else repeats a numeral.
-use Prim.Native.Nat.{ℕ}
+use Prim.Native.Nat.{ℕ, _-_}
 
 -- from and to, both allowed
 pub record Range : Type 0 where
@@ -43,7 +43,7 @@ hyperperiod = record { from = 1; to = 20000 }
 
 -- a predecessor's number, below that of a node
 abbrev pub predecessor : Range
-predecessor = record { from = 1; to = 15 }
+predecessor = record { from = 1; to = nodes .to - 1 }
 
 -- the most pending server jobs of a server, and unfinished invocations of a graph, that are no backlog
 abbrev pub pending : ℕ

@@ -1,0 +1,39 @@
+-- A table with no graph, an empty server, and the state at instant 0, in the form of the code's structs.
+use mathlib.Core.Bool.{false}
+use mathlib.Core.List.{List}
+use Prim.Native.Nat.{ℕ}
+use lib.ListN.{replicate}
+use Rattle.rules.specs.Limits as Rules
+use Rattle.table.specs.declared.Table.{Table}
+use Rattle.table.specs.declared.Graph.{Graph}
+use Rattle.table.specs.declared.Node.{Node}
+use Rattle.table.specs.declared.Pending.{Pending}
+use Rattle.table.specs.declared.Server.{Server}
+use Rattle.table.specs.declared.State.{State}
+
+-- what stands in the arrays past the last graph and node
+abbrev pub noGraph : Graph
+noGraph = record { period = 0; offset = 0; first = 0; nodes = 0 }
+
+abbrev pub noNode : Node
+noNode = record { budget = 0; level = 0; after = 0 }
+
+abbrev pub emptyTable : ℕ → ℕ → Table
+emptyTable p r =
+    record {
+      processors = p;
+      rounds = r;
+      graphs = 0;
+      nodes = 0;
+      graph = replicate (Rules.graphs .to) noGraph;
+      node = replicate (Rules.allNodes .to) noNode;
+    }
+
+abbrev pub noJob : Pending
+noJob = record { left = 0; behind = 0; linked = false }
+
+abbrev pub emptyServer : Server
+emptyServer = record { jobs = replicate Rules.pending noJob; count = 0; unfinished = 0; unlinked = 0 }
+
+abbrev pub freshState : List ℕ → State
+freshState offsets = record { servers = replicate (Rules.allNodes .to) emptyServer; until = offsets }

@@ -1,0 +1,349 @@
+// The table in memory, with every limit of document 01 as an associated constant; the nine keys; the windows that a walk keeps, with
+// the functions that make an empty server and the fresh state.
+ghost use mathlib.Core.Path.{_≡_};
+ghost use Rattle.rules.specs.Keys.{keyAt};
+ghost use Rattle.table.specs.Limits.{limits};
+ghost use Rattle.table.specs.Keys.{codedKey};
+ghost use Rattle.table.specs.Fresh.{emptyTable, emptyServer, freshState};
+
+// From and to, both allowed.
+pub struct Range {
+    pub from: u32,
+    pub to: u32,
+}
+
+pub struct Limits {
+    pub table_bytes: Range,
+    pub processors: Range,
+    pub rounds: Range,
+    pub graphs: Range,
+    pub period: Range,
+    pub budget: Range,
+    pub offset: Range,
+    pub nodes: Range,
+    pub all_nodes: Range,
+    pub level: Range,
+    pub hyperperiod: Range,
+    pub predecessor: Range,
+    pub pending: u32,
+    pub unfinished: u32,
+}
+
+// A key: its name, filled up with zeros, the name's length, and the limits of its number (of `after`, of each number of its list).
+pub struct Key {
+    pub name: [u8; Table::NAME_LENGTH],
+    pub length: usize,
+    pub range: Range,
+}
+
+// A node: bit p - 1 of `after` is set for each predecessor p.
+pub struct Node {
+    pub budget: u32,
+    pub level: u32,
+    pub after: u32,
+}
+
+// A graph: the place of its node 1 among the nodes of all graphs, and how many nodes it has.
+pub struct Graph {
+    pub period: u32,
+    pub offset: u32,
+    pub first: usize,
+    pub nodes: usize,
+}
+
+// The first `graphs` of `graph` and the first `nodes` of `node` are the table's; the rest are all zeros.
+pub struct Table {
+    pub processors: u32,
+    pub rounds: u32,
+    pub graphs: usize,
+    pub nodes: usize,
+    pub graph: [Graph; Table::GRAPHS],
+    pub node: [Node; Table::SERVERS],
+}
+
+// A pending server job: its budget left and, where it is linked, by how many numbers the job lies behind it.
+pub struct Pending {
+    pub left: u16,
+    pub behind: u8,
+    pub linked: bool,
+}
+
+// A server's window: its pending server jobs, the oldest first, and the counts of document 01's state.
+pub struct Server {
+    pub jobs: [Pending; Table::WINDOW],
+    pub count: u8,
+    pub unfinished: u8,
+    pub unlinked: u8,
+}
+
+// What a walk keeps: a window for each server and, for each graph, the ticks until its next release.
+pub struct State {
+    pub servers: [Server; Table::SERVERS],
+    pub until: [u16; Table::GRAPHS],
+}
+
+impl Table {
+    pub const TABLE_BYTES_FROM: u32 = 0;
+
+    pub const TABLE_BYTES_TO: u32 = 4_096;
+
+    pub const PROCESSORS_FROM: u32 = 1;
+
+    pub const PROCESSORS_TO: u32 = 8;
+
+    pub const ROUNDS_FROM: u32 = 1;
+
+    pub const ROUNDS_TO: u32 = 64;
+
+    pub const GRAPHS_FROM: u32 = 1;
+
+    pub const GRAPHS_TO: u32 = 8;
+
+    pub const PERIOD_FROM: u32 = 1;
+
+    pub const PERIOD_TO: u32 = 10_000;
+
+    pub const BUDGET_FROM: u32 = 1;
+
+    pub const BUDGET_TO: u32 = 10_000;
+
+    pub const OFFSET_FROM: u32 = 0;
+
+    pub const OFFSET_TO: u32 = 10_000;
+
+    pub const NODES_FROM: u32 = 1;
+
+    pub const NODES_TO: u32 = 16;
+
+    pub const ALL_NODES_FROM: u32 = 1;
+
+    pub const ALL_NODES_TO: u32 = 32;
+
+    pub const LEVEL_FROM: u32 = 1;
+
+    pub const LEVEL_TO: u32 = 4;
+
+    pub const HYPERPERIOD_FROM: u32 = 1;
+
+    pub const HYPERPERIOD_TO: u32 = 20_000;
+
+    pub const PREDECESSOR_FROM: u32 = 1;
+
+    pub const PREDECESSOR_TO: u32 = Table::NODES_TO - 1;
+
+    pub const PENDING: u32 = 16;
+
+    pub const UNFINISHED: u32 = 64;
+
+    // The limits as lengths of arrays.
+    pub const GRAPHS: usize = Table::GRAPHS_TO as usize;
+
+    pub const SERVERS: usize = Table::ALL_NODES_TO as usize;
+
+    pub const WINDOW: usize = Table::PENDING as usize;
+
+    // The nine keys in the order in which they stand.
+    pub const NAME_LENGTH: usize = 10;
+
+    pub const KEY_COUNT: usize = 9;
+
+    const KEYS: [Key; Table::KEY_COUNT] = [
+        Key {
+            name: *b"processors",
+            length: 10,
+            range: Range {
+                from: Table::PROCESSORS_FROM,
+                to: Table::PROCESSORS_TO,
+            },
+        },
+        Key {
+            name: *b"rounds\0\0\0\0",
+            length: 6,
+            range: Range {
+                from: Table::ROUNDS_FROM,
+                to: Table::ROUNDS_TO,
+            },
+        },
+        Key {
+            name: *b"graphs\0\0\0\0",
+            length: 6,
+            range: Range {
+                from: Table::GRAPHS_FROM,
+                to: Table::GRAPHS_TO,
+            },
+        },
+        Key {
+            name: *b"period\0\0\0\0",
+            length: 6,
+            range: Range {
+                from: Table::PERIOD_FROM,
+                to: Table::PERIOD_TO,
+            },
+        },
+        Key {
+            name: *b"offset\0\0\0\0",
+            length: 6,
+            range: Range {
+                from: Table::OFFSET_FROM,
+                to: Table::OFFSET_TO,
+            },
+        },
+        Key {
+            name: *b"nodes\0\0\0\0\0",
+            length: 5,
+            range: Range {
+                from: Table::NODES_FROM,
+                to: Table::NODES_TO,
+            },
+        },
+        Key {
+            name: *b"budget\0\0\0\0",
+            length: 6,
+            range: Range {
+                from: Table::BUDGET_FROM,
+                to: Table::BUDGET_TO,
+            },
+        },
+        Key {
+            name: *b"level\0\0\0\0\0",
+            length: 5,
+            range: Range {
+                from: Table::LEVEL_FROM,
+                to: Table::LEVEL_TO,
+            },
+        },
+        Key {
+            name: *b"after\0\0\0\0\0",
+            length: 5,
+            range: Range {
+                from: Table::PREDECESSOR_FROM,
+                to: Table::PREDECESSOR_TO,
+            },
+        },
+    ];
+
+    // Every limit, for the proof that the constants are the rules' own.
+    pub fn limits() -> Limits
+        ensures { λ r. ⌜ r ≡ limits ⌝ }
+    {
+        Limits {
+            table_bytes: Range {
+                from: Table::TABLE_BYTES_FROM,
+                to: Table::TABLE_BYTES_TO,
+            },
+            processors: Range {
+                from: Table::PROCESSORS_FROM,
+                to: Table::PROCESSORS_TO,
+            },
+            rounds: Range {
+                from: Table::ROUNDS_FROM,
+                to: Table::ROUNDS_TO,
+            },
+            graphs: Range {
+                from: Table::GRAPHS_FROM,
+                to: Table::GRAPHS_TO,
+            },
+            period: Range {
+                from: Table::PERIOD_FROM,
+                to: Table::PERIOD_TO,
+            },
+            budget: Range {
+                from: Table::BUDGET_FROM,
+                to: Table::BUDGET_TO,
+            },
+            offset: Range {
+                from: Table::OFFSET_FROM,
+                to: Table::OFFSET_TO,
+            },
+            nodes: Range {
+                from: Table::NODES_FROM,
+                to: Table::NODES_TO,
+            },
+            all_nodes: Range {
+                from: Table::ALL_NODES_FROM,
+                to: Table::ALL_NODES_TO,
+            },
+            level: Range {
+                from: Table::LEVEL_FROM,
+                to: Table::LEVEL_TO,
+            },
+            hyperperiod: Range {
+                from: Table::HYPERPERIOD_FROM,
+                to: Table::HYPERPERIOD_TO,
+            },
+            predecessor: Range {
+                from: Table::PREDECESSOR_FROM,
+                to: Table::PREDECESSOR_TO,
+            },
+            pending: Table::PENDING,
+            unfinished: Table::UNFINISHED,
+        }
+    }
+
+    // Key number k, from 0; past the last one a key without a name.
+    pub fn key(k: usize) -> Key
+        ensures { λ r. ⌜ r ≡ codedKey (keyAt k) ⌝ }
+    {
+        if k < Table::KEY_COUNT {
+            return Table::KEYS[k];
+        }
+        Key {
+            name: [0u8; Table::NAME_LENGTH],
+            length: 0,
+            range: Range { from: 0, to: 0 },
+        }
+    }
+
+    // A table with no graph.
+    pub fn empty(processors: u32, rounds: u32) -> Table
+        ensures { λ r. ⌜ r ≡ emptyTable processors rounds ⌝ }
+    {
+        let g = Graph {
+            period: 0,
+            offset: 0,
+            first: 0,
+            nodes: 0,
+        };
+        let x = Node {
+            budget: 0,
+            level: 0,
+            after: 0,
+        };
+        Table {
+            processors,
+            rounds,
+            graphs: 0,
+            nodes: 0,
+            graph: [g; Table::GRAPHS],
+            node: [x; Table::SERVERS],
+        }
+    }
+
+    // A server of which nothing is released.
+    pub fn empty_server() -> Server
+        ensures { λ r. ⌜ r ≡ emptyServer ⌝ }
+    {
+        let p = Pending {
+            left: 0,
+            behind: 0,
+            linked: false,
+        };
+        Server {
+            jobs: [p; Table::WINDOW],
+            count: 0,
+            unfinished: 0,
+            unlinked: 0,
+        }
+    }
+
+    // The state at instant 0: each graph's first release is its offset away.
+    pub fn fresh(offsets: [u16; Table::GRAPHS]) -> State
+        ensures { λ r. ⌜ r ≡ freshState offsets ⌝ }
+    {
+        let s = Table::empty_server();
+        State {
+            servers: [s; Table::SERVERS],
+            until: offsets,
+        }
+    }
+}
