@@ -1,2 +1,5 @@
 pub mod OnePass
+pub mod Computing
 pub mod Worked
+pub mod Reached
+pub mod Unique

@@ -1,5 +1,7 @@
 -- The ten refusals: document 01's number and line for every case of the enum.
 use Prim.Native.Nat.{ℕ}
+use Rattle.rules.specs.declared.Answer.{Answer}
+use Rattle.rules.specs.declared.Answer.the-variants.{Text, Refused}
 use Rattle.rules.specs.declared.Refusal.{Refusal}
 use Rattle.rules.specs.declared.Refusal.the-variants.{TooLong, Misspelled, OutsideLimits, AgainstPredecessorRules, LongHyperperiod, NotLoadable, Backlog, Unsettled, PastTheStop, ShortBuffer}
 
@@ -26,3 +28,16 @@ lineOf Backlog = 0
 lineOf Unsettled = 0
 lineOf PastTheStop = 0
 lineOf ShortBuffer = 0
+
+-- and of every case of an answer: 0 with the text's length, or the refusal's own with length 0
+abbrev pub answerNumber : Answer → ℕ
+answerNumber (Text n) = 0
+answerNumber (Refused r) = numberOf r
+
+abbrev pub answerLineNumber : Answer → ℕ
+answerLineNumber (Text n) = 0
+answerLineNumber (Refused r) = lineOf r
+
+abbrev pub answerLength : Answer → ℕ
+answerLength (Text n) = n
+answerLength (Refused r) = 0
