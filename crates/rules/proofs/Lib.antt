@@ -1,2 +1,4 @@
 pub mod OnePass
 pub mod Worked
+pub mod Outcomes
+pub mod ReadWellFormed
