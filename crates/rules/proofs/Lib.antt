@@ -3,3 +3,5 @@ pub mod Computing
 pub mod Worked
 pub mod Reached
 pub mod Unique
+pub mod Outcomes
+pub mod ReadWellFormed

@@ -1,0 +1,46 @@
+-- What holds of the value and the place that reading comes to, line after line.
+use mathlib.Core.Path.{_≡_, refl, sym, subst}
+use mathlib.Core.Bool.{Bool, true, false, cond}
+use Prim.Native.Nat.{ℕ, suc, _+_, _*_}
+use native.Mathlib.Omega.{arith}
+use Rattle.rules.specs.declared.Refusal.{Refusal}
+use Rattle.rules.specs.declared.Refusal.the-variants.{OutsideLimits, AgainstPredecessorRules}
+use Rattle.rules.specs.Keys.{keyAt}
+use Rattle.rules.specs.Keys as Keys
+use Rattle.rules.specs.Spelling.{Scan, read, wrong, number, list, line}
+use Rattle.rules.specs.WellFormed.{within, orderly}
+use Rattle.rules.specs.Reading.{Place, Outcome, refused, done, _and-then_, judged, numberLine, afterLine}
+
+-- a test is true or false
+pub by-test : {C : Type 0} (b : Bool) → (b ≡ true → C) → (b ≡ false → C) → C
+by-test true f g = f refl
+by-test false f g = g refl
+
+module _ {A : Type 0} where
+  -- P holds of the value and the place, where there are any
+  abbrev pub Holds : (A → Place → Type 0) → Outcome A → Type 0
+  Holds P (done a p) = P a p
+  Holds P (refused r) = Unit {0}
+
+  pub told : (P : A → Place → Type 0) {x : Outcome A} {a : A} {p : Place} → x ≡ done a p → Holds P x → P a p
+  told P e h = subst (Holds P) e h
+
+  pub judged-holds : (unfair : ℕ → Refusal) (fair : A → Bool) (l : ℕ) (x : Scan A)
+      → Holds (λ a p. (fair a ≡ true) × (p .line ≡ suc l)) (judged unfair fair l x)
+  judged-holds unfair fair l (wrong rest) = tt
+  judged-holds unfair fair l (read v rest) = by-test (fair v) (λ e. rw e (e, refl)) (λ e. rw e tt)
+
+module _ {A B : Type 0} where
+  pub then-holds : (P : A → Place → Type 0) (Q : B → Place → Type 0) (x : Outcome A) (f : A → Place → Outcome B)
+      → Holds P x → ((a : A) (p : Place) → P a p → Holds Q (f a p)) → Holds Q (x and-then f)
+  then-holds P Q (done a p) f h g = g a p h
+  then-holds P Q (refused r) f h g = tt
+
+-- a line that passes is fair, and the next line follows it
+pub number-line-holds : (k : ℕ) (p : Place) → Holds (λ v q. (within (keyAt k .range) v ≡ true) × (q .line ≡ suc (p .line))) (numberLine k p)
+unfolding numberLine
+number-line-holds k p = judged-holds OutsideLimits (within (keyAt k .range)) (p .line) (line (keyAt k .name) number (p .bytes))
+
+pub after-line-holds : (own : ℕ) (p : Place) → Holds (λ v q. (orderly own v ≡ true) × (q .line ≡ suc (p .line))) (afterLine own p)
+unfolding afterLine
+after-line-holds own p = judged-holds AgainstPredecessorRules (orderly own) (p .line) (line (keyAt Keys.after .name) list (p .bytes))

@@ -1,0 +1,169 @@
+-- What is read is well-formed. Shown at the end: `read-well-formed`, and `admitted-well-formed`, which adds that the hyperperiod is within
+-- its limit.
+use mathlib.Core.Path.{_≡_, refl, sym, ap, _∙_, subst}
+use mathlib.Core.Bool.{Bool, true, false, _&&_, cond}
+use mathlib.Core.List.{List, [], _∷_}
+use Prim.Native.Nat.{ℕ, zero, suc, _+_, _*_, _-_, _≤_}
+use native.Mathlib.Omega.{arith}
+use lib.Dec.{T, leb}
+use lib.ListN.{length}
+use borrow.Author.Tests.{leb-true, le-leb}
+use Rattle.rules.specs.declared.Refusal.the-variants.{OutsideLimits, AgainstPredecessorRules, TooLong, LongHyperperiod, NotLoadable}
+use Rattle.rules.specs.Limits as Limits
+use Rattle.rules.specs.Limits.{Range}
+use Rattle.rules.specs.Lists.{all?, sum}
+use Rattle.rules.specs.Keys as Keys
+use Rattle.rules.specs.Keys.{keys, keyAt}
+use Rattle.rules.specs.Table.{Node, Graph, Table, hyperperiod, loadable}
+use Rattle.rules.specs.WellFormed.{within, orderly, allFollowed, nodesFormed, graphFormed, wellFormed}
+use Rattle.rules.specs.Reading.{Place, Outcome, refused, done, _and-then_, numberLine, afterLine, node, nodesFrom, graphNodes, graph, graphsFrom, ended, table, readOf, Admission, admitted, admit, admitRead, admissionOf}
+use Rattle.rules.specs.Reading as Reading
+use Rattle.rules.proofs.Outcomes.{by-test, Holds, told, then-holds, number-line-holds, after-line-holds}
+
+-- two tests that both pass
+pub both : {a b : Bool} → a ≡ true → b ≡ true → a && b ≡ true
+both {a} {b} e f = rw (e, f)
+
+pub first-of : (a b : Bool) → a && b ≡ true → a ≡ true
+first-of true b e = refl
+first-of false b e = e
+
+pub second-of : (a b : Bool) → a && b ≡ true → b ≡ true
+second-of true b e = e
+second-of false b e = absurd (let z : _≡_ {A = ℕ} 0 1 = cc in omega arith)
+
+-- a number within its limits, and back
+pub within-limits : (r : Range) (v : ℕ) → within r v ≡ true → (r .from ≤ v) × (v ≤ r .to)
+within-limits r v e =
+    (leb-true (r .from) v (first-of (leb (r .from) v) (leb v (r .to)) e), leb-true v (r .to) (second-of (leb (r .from) v) (leb v (r .to)) e))
+
+pub limits-within : (r : Range) (v : ℕ) → r .from ≤ v → v ≤ r .to → within r v ≡ true
+limits-within r v h l = both (le-leb (r .from) v h) (le-leb v (r .to) l)
+
+-- a node has three lines
+node-holds : (own : ℕ) (p : Place)
+    → Holds (λ x q. ((within Limits.budget (x .budget) && (within Limits.level (x .level) && orderly own (x .after))) ≡ true) × (q .line ≡ p .line + 3)) (node own p)
+unfolding node keys
+node-holds own p =
+    then-holds _ _ (numberLine Keys.budget p) _ (number-line-holds Keys.budget p) (λ b q h.
+    then-holds _ _ (numberLine Keys.level q) _ (number-line-holds Keys.level q) (λ v r i.
+    then-holds _ _ (afterLine own r) _ (after-line-holds own r) (λ m t j.
+    (both (h .0) (both (i .0) (j .0)), omega arith))))
+
+pub nodes-holds : (own n : ℕ) (p : Place)
+    → Holds (λ xs q. (nodesFormed own xs ≡ true) × (length xs ≡ n) × (q .line ≡ p .line + 3 * n)) (nodesFrom own n p)
+unfolding nodesFrom nodesFormed
+nodes-holds own zero p = (refl, refl, omega arith)
+nodes-holds own (suc n) p =
+    then-holds _ _ (node own p) _ (node-holds own p) (λ x q h.
+    then-holds _ _ (nodesFrom (suc own) n q) _ (nodes-holds (suc own) n q) (λ xs r i.
+    (both (h .0) (i .0), ap suc (i .1), omega arith)))
+
+-- what holds of a graph G that ends at q, where it begins at line l after `total` nodes
+abbrev pub Graphed : ℕ → ℕ → Graph → Place → Type 0
+Graphed total l G q =
+    (graphFormed G ≡ true) × (total + length (G .nodes) ≤ Limits.allNodes .to) × (q .line ≡ l + 3 + 3 * length (G .nodes))
+
+graph-nodes-holds : (total period offset n l : ℕ) (p : Place)
+    → within Limits.period period ≡ true → within Limits.offset offset ≡ true → within Limits.nodes n ≡ true
+    → Holds (λ G q. (graphFormed G ≡ true) × (total + length (G .nodes) ≤ Limits.allNodes .to) × (q .line ≡ p .line + 3 * length (G .nodes))) (graphNodes total period offset n l p)
+unfolding graphNodes graphFormed
+graph-nodes-holds total period offset n l p a b e =
+    by-test (leb (total + n) (Limits.allNodes .to))
+    (λ f. rw f (then-holds _ _ (nodesFrom 1 n p) _ (nodes-holds 1 n p) (λ xs q h.
+    let fits = leb-true (total + n) (Limits.allNodes .to) f in
+    let few : within Limits.nodes (length xs) ≡ true = rw (h .1) e in
+    by-test (allFollowed xs)
+    (λ g. rw g (both a (both b (both few (both (h .0) g))), omega (arith, h .1), omega (arith, h .1, h .2)))
+    (λ g. rw g tt))))
+    (λ f. rw f tt)
+
+pub graph-holds : (total : ℕ) (p : Place) → Holds (Graphed total (p .line)) (graph total p)
+unfolding graph keys
+graph-holds total p =
+    then-holds _ _ (numberLine Keys.period p) _ (number-line-holds Keys.period p) (λ a q h.
+    then-holds _ _ (numberLine Keys.offset q) _ (number-line-holds Keys.offset q) (λ b r i.
+    then-holds _ _ (numberLine Keys.nodes r) _ (number-line-holds Keys.nodes r) (λ n t j.
+    later t (graphNodes total a b n (r .line) t) (omega arith) (graph-nodes-holds total a b n (r .line) t (h .0) (i .0) (j .0)))))
+  where
+    later : (t : Place) (x : Outcome Graph) → t .line ≡ p .line + 3
+        → Holds (λ G q. (graphFormed G ≡ true) × (total + length (G .nodes) ≤ Limits.allNodes .to) × (q .line ≡ t .line + 3 * length (G .nodes))) x
+        → Holds (Graphed total (p .line)) x
+    later t (refused r) f h = tt
+    later t (done G q) f h = (h .0, h .1, omega (arith, h .2))
+
+abbrev pub nodesIn : List Graph → ℕ
+nodesIn Gs = sum (λ (G : Graph). length (G .nodes)) Gs
+
+-- a graph that is formed has a node
+formed-nodes : (G : Graph) → graphFormed G ≡ true → 1 ≤ length (G .nodes)
+unfolding graphFormed
+formed-nodes G e =
+    within-limits Limits.nodes (length (G .nodes))
+    (first-of (within Limits.nodes (length (G .nodes))) (nodesFormed 1 (G .nodes) && allFollowed (G .nodes))
+    (second-of (within Limits.offset (G .offset)) (within Limits.nodes (length (G .nodes)) && (nodesFormed 1 (G .nodes) && allFollowed (G .nodes)))
+    (second-of (within Limits.period (G .period)) _ e))) .0
+
+graphs-holds : (total n : ℕ) (p : Place) → total ≤ Limits.allNodes .to
+    → Holds (λ Gs q. (all? graphFormed Gs ≡ true) × (length Gs ≡ n) × (total + nodesIn Gs ≤ Limits.allNodes .to) × (n ≤ nodesIn Gs)) (graphsFrom total n p)
+unfolding graphsFrom
+graphs-holds total zero p h = (refl, refl, omega arith, omega arith)
+graphs-holds total (suc n) p h =
+    then-holds _ _ (graph total p) _ (graph-holds total p) (λ G q i.
+    then-holds _ _ (graphsFrom (total + length (G .nodes)) n q) _ (graphs-holds (total + length (G .nodes)) n q (i .1)) (λ Gs r j.
+    let k = formed-nodes G (i .0) in
+    (both (i .0) (j .0), ap suc (j .1), omega (arith, j .2), omega (arith, j .3))))
+
+table-holds : (p : Place) → Holds (λ T q. wellFormed T ≡ true) (table p)
+unfolding table wellFormed keys
+table-holds p =
+    then-holds _ _ (numberLine Keys.processors p) _ (number-line-holds Keys.processors p) (λ a q h.
+    then-holds _ _ (numberLine Keys.rounds q) _ (number-line-holds Keys.rounds q) (λ b r i.
+    then-holds _ _ (numberLine Keys.graphs r) _ (number-line-holds Keys.graphs r) (λ n t j.
+    then-holds _ _ (graphsFrom 0 n t) _ (graphs-holds 0 n t (omega arith)) (λ Gs u k.
+    end a b Gs u (u .bytes)
+    (let l = within-limits Limits.graphs n (j .0) in
+    let few : within Limits.graphs (length Gs) ≡ true = rw (k .1) (j .0) in
+    both (h .0) (both (i .0) (both few (both (k .0) (limits-within Limits.allNodes (nodesIn Gs) (omega (arith, l .0, k .3)) (omega (arith, k .2)))))))))))
+  where
+    end : (a b : ℕ) (Gs : List Graph) (u : Place) (rest : List ℕ)
+        → wellFormed (record { processors = a; rounds = b; graphs = Gs }) ≡ true
+        → Holds (λ T q. wellFormed T ≡ true) (ended (record { processors = a; rounds = b; graphs = Gs }) u rest)
+    end a b Gs u [] e = e
+    end a b Gs u (c ∷ rest) e = tt
+
+passes : {b : Bool} → b ≡ true → T b
+passes e = subst T (sym e) tt
+
+pub read-well-formed : (s : List ℕ) (U : Table) (p : Place) → readOf s ≡ done U p → T (wellFormed U)
+unfolding readOf
+read-well-formed s U p e =
+    by-test (leb (length s) (Limits.tableBytes .to))
+    (λ f. passes (told (λ W q. wellFormed W ≡ true) (rw f at e) (table-holds (record { line = 1; bytes = s }))))
+    (λ f. absurd (let g = rw f at e in let z : _≡_ {A = ℕ} 0 1 = cc in omega arith))
+
+-- an admission that is no refusal
+admitted-holds : (P : Table → Type 0) (x : Outcome Table) (U : Table) → admitRead x ≡ admitted U
+    → Holds (λ W q. P W) x → P U × (hyperperiod U ≤ Limits.hyperperiod .to)
+unfolding admit
+admitted-holds P (refused r) U e h = absurd (let z : _≡_ {A = ℕ} 0 1 = cc in omega arith)
+admitted-holds P (done W q) U e h =
+    by-test (leb (hyperperiod W) (Limits.hyperperiod .to))
+    (λ f. by-test (loadable W)
+    (λ g. let same : W ≡ U = inner (rw (f, g) at e) in (subst P same h, leb-true (hyperperiod U) (Limits.hyperperiod .to) (rw same at f)))
+    (λ g. absurd (no-refusal (rw (f, g) at e))))
+    (λ f. absurd (no-refusal (rw f at e)))
+  where
+    inner : admitted W ≡ admitted U → W ≡ U
+    inner g = cc
+
+    no-refusal : {r : _} → Reading.Admission.refused r ≡ admitted U → ⊥
+    no-refusal g = let z : _≡_ {A = ℕ} 0 1 = cc in omega arith
+
+pub admitted-well-formed : (s : List ℕ) (U : Table) → admissionOf s ≡ admitted U → T (wellFormed U) × (hyperperiod U ≤ Limits.hyperperiod .to)
+unfolding admissionOf
+admitted-well-formed s U e = admitted-holds (λ W. T (wellFormed W)) (readOf s) U e (read-holds (readOf s) refl)
+  where
+    read-holds : (x : Outcome Table) → readOf s ≡ x → Holds (λ W q. T (wellFormed W)) x
+    read-holds (refused r) f = tt
+    read-holds (done W q) f = read-well-formed s W q f
