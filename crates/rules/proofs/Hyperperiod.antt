@@ -3,7 +3,10 @@
 use mathlib.Core.Path.{_≡_, refl, sym, ap, _∙_}
 use mathlib.Core.List.{List, [], _∷_, List·Memᴰ, List·Memᴰ·head, List·Memᴰ·tail, List·Memᴰ·not-nil, List·Memᴰ·cases-cons}
 use Prim.Native.Nat.{ℕ, zero, suc, _+_, _*_, _/_, _%_, _≤_, _<_, _∣_}
-use native.Mathlib.Nat.{mod-lt, div-add-mod', dvd-refl, dvd-zero, dvd-trans, dvd-mod-iff, dvd-mul-left, dvd-mul-right, dvd-mul-left-of-dvd, dvd-add-iff-right, dvd-of-mul-dvd-mul-right, mul-dvd-mul-left, mul-dvd-mul-right, div-mul-cancel, mul-div-cancel', mul-add, mul-assoc, mul-comm, mul-left-comm, mul-pos, one-mul, one-dvd, zero-mul, le-refl, le-of-dvd, pos-of-dvd-of-pos}
+use native.Mathlib.Nat.{mod-lt, div-add-mod', dvd-refl, dvd-zero, dvd-trans, dvd-mod-iff, dvd-mul-left, dvd-mul-right, dvd-mul-left-of-dvd}
+use native.Mathlib.Nat.{dvd-add-iff-right, dvd-of-mul-dvd-mul-right, mul-dvd-mul-left, mul-dvd-mul-right, div-mul-cancel, mul-div-cancel'}
+use native.Mathlib.Nat.{mul-add, mul-assoc, mul-comm, mul-left-comm, mul-pos, one-mul, one-dvd, zero-mul, le-refl, le-of-dvd}
+use native.Mathlib.Nat.{pos-of-dvd-of-pos}
 use native.Mathlib.Omega.{arith}
 use Rattle.rules.specs.Table.{Graph, Table, euclid, gcd, lcm, lcmFrom, hyperperiod}
 use Rattle.rules.proofs.Tests.{by-lt, either-way}
