@@ -5,3 +5,7 @@ pub mod Cells
 pub mod Releases
 pub mod Ready
 pub mod InTurn
+pub mod LinkRows
+pub mod Linking
+pub mod Finishing
+pub mod Sustained
