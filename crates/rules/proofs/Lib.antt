@@ -9,3 +9,4 @@ pub mod LinkRows
 pub mod Linking
 pub mod Finishing
 pub mod Sustained
+pub mod FirstStop
