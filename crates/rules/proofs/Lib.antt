@@ -10,3 +10,4 @@ pub mod Linking
 pub mod Finishing
 pub mod Sustained
 pub mod FirstStop
+pub mod Responses
