@@ -11,3 +11,4 @@ pub mod Finishing
 pub mod Sustained
 pub mod FirstStop
 pub mod Responses
+pub mod SameRunning
