@@ -12,3 +12,4 @@ pub mod Sustained
 pub mod FirstStop
 pub mod Responses
 pub mod SameRunning
+pub mod Repeating
