@@ -13,3 +13,4 @@ pub mod FirstStop
 pub mod Responses
 pub mod SameRunning
 pub mod Repeating
+pub mod SameState
