@@ -14,3 +14,4 @@ pub mod Responses
 pub mod SameRunning
 pub mod Repeating
 pub mod SameState
+pub mod StateRows
