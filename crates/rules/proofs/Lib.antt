@@ -15,3 +15,4 @@ pub mod SameRunning
 pub mod Repeating
 pub mod SameState
 pub mod StateRows
+pub mod Boundaries

@@ -38,7 +38,7 @@ module _ (f : ℕ → ℕ) where
   unfolding linkedUpTo
   linked-le n = count-le (λ (k : ℕ). ltb 0 (f k)) n
 
-  linked-grows : (a d : ℕ) → linkedUpTo f a ≤ linkedUpTo f (a + d)
+  pub linked-grows : (a d : ℕ) → linkedUpTo f a ≤ linkedUpTo f (a + d)
   linked-grows a zero = let e : a + 0 ≡ a = omega arith in rw e (omega arith)
   linked-grows a (suc d) = let e : a + suc d ≡ suc (a + d) = omega arith in rw e (omega (arith, linked-last (a + d), linked-grows a d))
 
