@@ -16,3 +16,4 @@ pub mod Repeating
 pub mod SameState
 pub mod StateRows
 pub mod Boundaries
+pub mod Repetition

@@ -108,7 +108,7 @@ module _ (S : List Server) (cap : ℕ → ℕ) (H : ℕ) (h : ℕ → ℕ) (y : 
         up : (q : ℕ) → T (ok q) → T (fin t j q) → T (fin u (j + h i) q)
         up q g f = is-finished S cap need u q (j + h i) (rw (same-h q g) at (r .fin-up q j (in-S q g) a (finished-is S cap need t q j f)))
 
-    due-shift : (i j : ℕ) → i < length S → 1 ≤ j → dueBy S cap need u i (j + h i) ≡ dueBy S cap need t i j
+    pub due-shift : (i j : ℕ) → i < length S → 1 ≤ j → dueBy S cap need u i (j + h i) ≡ dueBy S cap need t i j
     unfolding dueBy due
     due-shift i j l a = after-shift i j a ((srv S i) .predecessors) (graph i l)
 
