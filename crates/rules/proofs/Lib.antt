@@ -17,3 +17,4 @@ pub mod SameState
 pub mod StateRows
 pub mod Boundaries
 pub mod Repetition
+pub mod LeastTrueBox
