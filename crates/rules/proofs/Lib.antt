@@ -18,3 +18,6 @@ pub mod StateRows
 pub mod Boundaries
 pub mod Repetition
 pub mod LeastTrueBox
+pub mod Formed
+pub mod TableBox
+pub mod LeastTrue
