@@ -21,3 +21,5 @@ pub mod LeastTrueBox
 pub mod Formed
 pub mod TableBox
 pub mod LeastTrue
+pub mod Level
+pub mod Window

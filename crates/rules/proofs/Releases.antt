@@ -1,12 +1,11 @@
 -- Rule 1 in time: releases only grow in number, at most one at an instant; and h whole periods later there are h more of them, each as
 -- much later, with its priority.
-use mathlib.Core.Path.{_≡_, refl, sym, ap, _∙_}
+use mathlib.Core.Path.{_≡_, refl}
 use mathlib.Core.Bool.{cond}
-use Prim.Native.Nat.{ℕ, zero, suc, _+_, _*_, _-_, _/_, _%_, _≤_, _<_, zero-le}
+use Prim.Native.Nat.{ℕ, zero, suc, _+_, _*_, _-_, _/_, _≤_, _<_, zero-le}
 use native.Mathlib.Nat.{le-refl, le-trans, not-suc-le-zero, add-mul, suc-mul, zero-mul, mul-le-mul-right, div-zero, zero-div, add-div-right}
-use native.Mathlib.Nat.{div-mul-le-self, le-div-iff-mul-le, add-mul-div-right, div-eq-of-lt, div-add-mod'}
+use native.Mathlib.Nat.{div-mul-le-self, le-div-iff-mul-le, add-mul-div-right, div-eq-of-lt}
 use native.Mathlib.Omega.{arith}
-use lib.Dec.{ltb}
 use borrow.Author.Tests.{lt-ltb, le-ltb}
 use Rattle.rules.specs.Servers.{Server}
 use Rattle.rules.specs.ServerJobs.{releaseOf, released, releasedBefore, priorityOf}
@@ -65,19 +64,6 @@ module _ (s : Server) where
   pub priority-grows : (j k : ℕ) → j ≤ k → priorityOf s j ≤ priorityOf s k
   unfolding priorityOf releaseOf
   priority-grows j k h = let m : (j - 1) * s .period ≤ (k - 1) * s .period = mul-le-mul-right (s .period) (omega arith) in omega arith
-
-  -- from the release of server job k to t there are the periods of those released after it, and the phase
-  pub release-to-now : (t k : ℕ) → s .offset ≤ t → 1 ≤ k → k ≤ released s t
-      → releaseOf s k + (released s t - k) * s .period + (t - s .offset) % s .period ≡ t
-  unfolding released releaseOf
-  release-to-now t k o a b =
-      let q = (t - s .offset) / s .period in
-      let r : cond (ltb t (s .offset)) 0 (q + 1) ≡ q + 1 = rw (le-ltb t (s .offset) o) in
-      let b′ : k ≤ q + 1 = rw r at b in
-      let e : (k - 1) + (q + 1 - k) ≡ q = omega arith in
-      let m : (k - 1) * s .period + (q + 1 - k) * s .period ≡ q * s .period =
-      sym (add-mul (k - 1) (q + 1 - k) (s .period)) ∙ ap (λ (x : ℕ). x * s .period) e in
-      rw r (omega (arith, m, div-add-mod' (t - s .offset) (s .period)))
 
 -- H ticks are h whole periods
 module _ (s : Server) (h H : ℕ) (whole : h * s .period ≡ H) (some : 0 < s .period) where
