@@ -71,17 +71,15 @@ module _ (X : Box) (h : ℕ → ℕ) (sound : Sound X h) (need : ℕ → ℕ →
 
   more-released : (i : ℕ) → n u i ≡ n b i + h i
   more-released i =
-      releasedBefore-shift (srv S i) (h i) (X .hyper) (sound .periodic .periods i) (sound .periodic .period-some i) b (omega (arith, sound .offsets i))
-      (sound .periodic .some)
+      let y = sound .periodic in
+      releasedBefore-shift (srv S i) (h i) (X .hyper) (y .periods i) (y .period-some i) b (omega (arith, sound .offsets i)) (y .some)
 
   more-linked : (i : ℕ) → i < length S → linkedCount S (X .cap) need u i ≡ linkedCount S (X .cap) need b i + h i
   unfolding nodeState
   more-linked i l =
-      let L : ℕ → ℕ = λ t. linked S need (used S (X .cap) t) (links S (X .cap) need t) t i in
-      let e : n u i - L u ≡ n b i - L b = ap (λ (x : NodeState). x .unlinked) (same-node i l) in
       omega (
         arith,
-        e,
+        ap (λ (x : NodeState). x .unlinked) (same-node i l),
         more-released i,
         linked-count S (X .cap) need u i,
         linked-count S (X .cap) need b i,

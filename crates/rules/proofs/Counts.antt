@@ -117,5 +117,6 @@ module _ (p : ℕ → Bool) where
         (λ l.
         let e : j ≡ suc n = omega arith in
         let o : one? (p (suc n)) ≡ 1 = one-of (p (suc n)) (rw e at t) in
-        by-lt 0 n (λ z. omega (arith, upTo-last n, pass-first n n z (le-refl n) (closed n j z (omega arith) t))) (λ z. omega (arith, upTo-last n)))
+        by-lt 0 n (λ z. omega (arith, upTo-last n, pass-first n n z (le-refl n) (closed n j z (omega arith) t)))
+        (λ z. omega (arith, upTo-last n)))
         (λ l. omega (arith, upTo-last n, pass-first n j a l t))

@@ -89,7 +89,8 @@ module _ (S : List Server) (cap : ℕ → ℕ) (need : ℕ → ℕ → ℕ) wher
       let p = finished-is t i k f in
       let n = releasedBefore (srv S i) t in
       let row = linkOf S cap need t i in
-      let at : row (p .k) ≡ linkedUpTo row (p .k) = linked-at row n (links-in-order S cap need t i) (p .k) (p .from) (p .to) (omega (arith, p .is)) in
-      let (m, c, d, e) = linked-find row n (links-in-order S cap need t i) (p .k) (p .to) j a (omega (arith, p .is)) in
+      let o = links-in-order S cap need t i in
+      let at : row (p .k) ≡ linkedUpTo row (p .k) = linked-at row n o (p .k) (p .from) (p .to) (omega (arith, p .is)) in
+      let (m, c, d, e) = linked-find row n o (p .k) (p .to) j a (omega (arith, p .is)) in
       is-finished t i j
       (record { k = m; from = c; to = omega (arith, p .to); is = e; has = omega (arith, p .has, used-falls S cap t i m (p .k) c d) })

@@ -30,8 +30,9 @@ module _ (X : Box) (need : ℕ → ℕ → ℕ) where
   ends e =
       let σ = used (X .servers) (X .cap) last in
       let ls = links (X .servers) (X .cap) need last in
-      not-none (atBoundary X need last && sameState (state (X .servers) need σ ls last (X .sinks)) (stateAt X need (last - X .hyper))) (eqb last last)
-      (settled (roundAt X need last)) unsettled (cond (backlogged (X .servers) need σ ls last (X .sinks)) (some backlog) none) (eq-eqb last last refl) e
+      let same = sameState (state (X .servers) need σ ls last (X .sinks)) (stateAt X need (last - X .hyper)) in
+      not-none (atBoundary X need last && same) (eqb last last) (settled (roundAt X need last)) unsettled
+      (cond (backlogged (X .servers) need σ ls last (X .sinks)) (some backlog) none) (eq-eqb last last refl) e
 
   -- from t on
   record From (t : ℕ) (s : Stopped) : Type 0 where

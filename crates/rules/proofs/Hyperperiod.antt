@@ -47,7 +47,9 @@ lcm-left a b =
     let g = gcd a b in
     let r = gcd-divides a b in
     let e : a / g * b ≡ a * (b / g) =
-    ap (λ (x : ℕ). a / g * x) (sym (mul-div-cancel' g {m = b} (r .1))) ∙ sym (mul-assoc (a / g) g (b / g)) ∙ ap (λ (x : ℕ). x * (b / g)) (div-mul-cancel g {m = a} (r .0)) in
+    ap (λ (x : ℕ). a / g * x) (sym (mul-div-cancel' g {m = b} (r .1)))
+    ∙ sym (mul-assoc (a / g) g (b / g))
+    ∙ ap (λ (x : ℕ). x * (b / g)) (div-mul-cancel g {m = a} (r .0)) in
     rw e (dvd-mul-right a (b / g))
 
 lcm-right : (a b : ℕ) → b ∣ lcm a b
@@ -59,12 +61,18 @@ lcm-gcd : (a b : ℕ) → lcm a b * gcd a b ≡ a * b
 unfolding lcm
 lcm-gcd a b =
     let g = gcd a b in
-    mul-assoc (a / g) b g ∙ ap (λ (x : ℕ). a / g * x) (mul-comm b g) ∙ sym (mul-assoc (a / g) g b) ∙ ap (λ (x : ℕ). x * b) (div-mul-cancel g {m = a} (gcd-divides a b .0))
+    mul-assoc (a / g) b g
+    ∙ ap (λ (x : ℕ). a / g * x) (mul-comm b g)
+    ∙ sym (mul-assoc (a / g) g b)
+    ∙ ap (λ (x : ℕ). x * b) (div-mul-cancel g {m = a} (gcd-divides a b .0))
 
 lcm-some : (a b : ℕ) → 0 < a → 0 < b → 0 < lcm a b
 lcm-some a b p q =
     by-lt 0 (lcm a b) (λ l. l)
-    (λ l. let z : lcm a b ≡ 0 = omega arith in let w : 0 * gcd a b ≡ a * b = rw z at (lcm-gcd a b) in absurd (let x : ⊥ = omega (arith, zero-mul (gcd a b), mul-pos p q) in x))
+    (λ l.
+    let z : lcm a b ≡ 0 = omega arith in
+    let w : 0 * gcd a b ≡ a * b = rw z at (lcm-gcd a b) in
+    absurd (let x : ⊥ = omega (arith, zero-mul (gcd a b), mul-pos p q) in x))
 
 lcm-least : (a b n : ℕ) → 0 < a → a ∣ n → b ∣ n → lcm a b ∣ n
 unfolding gcd
@@ -92,14 +100,16 @@ lcmFrom-each h (G₀ ∷ Gs) G m =
 pub lcmFrom-some : (h : ℕ) (Gs : List Graph) → 0 < h → ((G : Graph) → List·Memᴰ G Gs → 0 < G .period) → 0 < lcmFrom h Gs
 unfolding lcmFrom
 lcmFrom-some h [] p q = p
-lcmFrom-some h (G ∷ Gs) p q = lcmFrom-some (lcm h (G .period)) Gs (lcm-some h (G .period) p (q G (List·Memᴰ·head refl))) (λ G m. q G (List·Memᴰ·tail m))
+lcmFrom-some h (G ∷ Gs) p q =
+    lcmFrom-some (lcm h (G .period)) Gs (lcm-some h (G .period) p (q G (List·Memᴰ·head refl))) (λ G m. q G (List·Memᴰ·tail m))
 
 pub lcmFrom-least : (h : ℕ) (Gs : List Graph) (n : ℕ) → 0 < h → 0 < n → h ∣ n → Common Gs n → lcmFrom h Gs ∣ n
 unfolding lcmFrom
 lcmFrom-least h [] n p q u c = u
 lcmFrom-least h (G ∷ Gs) n p q u c =
     let v : G .period ∣ n = c G (List·Memᴰ·head refl) in
-    lcmFrom-least (lcm h (G .period)) Gs n (lcm-some h (G .period) p (pos-of-dvd-of-pos v q)) q (lcm-least h (G .period) n p u v) (λ G m. c G (List·Memᴰ·tail m))
+    lcmFrom-least (lcm h (G .period)) Gs n (lcm-some h (G .period) p (pos-of-dvd-of-pos v q)) q (lcm-least h (G .period) n p u v)
+    (λ G m. c G (List·Memᴰ·tail m))
 
 pub hyperperiod-some : (T : Table) → ((G : Graph) → List·Memᴰ G (T .graphs) → 0 < G .period) → 0 < hyperperiod T
 unfolding hyperperiod

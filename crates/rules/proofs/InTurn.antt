@@ -120,9 +120,10 @@ module _ (S : List Server) (cap : ℕ → ℕ) where
   unfolding completed complete
   not-complete t i k a b c =
       by-lt (usedBy t i k) (budgetOf S i) (λ l. l)
-      (λ l. absurd
-      (let x : ⊥ = omega (arith, pass-first (complete S (used S cap t) t i) (complete-in-order t i) (releasedBefore (srv S i) t) k a b (le→leb (budgetOf S i) (usedBy t i k) l))
-      in x))
+      (λ l.
+      let full : T (complete S (used S cap t) t i k) = le→leb (budgetOf S i) (usedBy t i k) l in
+      let up = pass-first (complete S (used S cap t) t i) (complete-in-order t i) (releasedBefore (srv S i) t) k a b full in
+      absurd (let x : ⊥ = omega arith in x))
 
   -- a server job that has budget left comes after the complete ones; and those after them that are released have some left
   pub after-complete : (t i k : ℕ) → 1 ≤ k → usedBy t i k < budgetOf S i → completed t i < k
@@ -154,6 +155,24 @@ module _ (S : List Server) (cap : ℕ → ℕ) where
           is-pending S (used S cap t) t i k
           (record { from = omega arith; to = leb→le k n (and-r (ltb c k) (leb k n) w); left = left-after t i k b lo })
 
+  -- a ready server job is one of the first `level` after the complete ones
+  pub ready-within : (t i k : ℕ) → 1 ≤ (srv S i) .level → Ready S (used S cap t) t i k
+      → (completed t i < k) × (k ≤ completed t i + (srv S i) .level)
+  ready-within t i k v r = (after-complete t i k (r .pends .from) (r .pends .left), near)
+    where
+      level : ℕ
+      level = (srv S i) .level
+
+      far : level < k → completed t i < k - level → usedBy t i (k - level) < budgetOf S i
+      far l w = not-complete t i (k - level) (omega arith) (omega (arith, r .pends .to, releasedBefore-one (srv S i) t)) w
+
+      near : k ≤ completed t i + level
+      near =
+          either-way (r .free) (λ z. omega arith)
+          (λ z. by-lt level k
+          (λ l. by-lt (completed t i) (k - level) (λ w. absurd (let x : ⊥ = omega (arith, far l w) in x)) (λ w. omega arith))
+          (λ l. omega arith))
+
   -- and the ready ones are the first `level` of them
   pub ready-are-first : (t i k : ℕ) → 1 ≤ (srv S i) .level → 0 < budgetOf S i
       → ready S (used S cap t) t (serverJob i k)
@@ -169,26 +188,20 @@ module _ (S : List Server) (cap : ℕ → ℕ) where
       n : ℕ
       n = released (srv S i) t
 
-      within : Ready S (used S cap t) t i k → k ≤ c + level
-      within r =
-          either-way (r .free) (λ z. omega arith)
-          (λ z. by-lt level k
-          (λ l. by-lt c (k - level)
-          (λ w. absurd
-          (let x : ⊥ = omega (arith, not-complete t i (k - level) (omega arith) (omega (arith, r .pends .to, releasedBefore-one (srv S i) t)) w) in x))
-          (λ w. omega arith))
-          (λ l. omega arith))
-
       to : T (ready S (used S cap t) t (serverJob i k)) → T (ltb c k && (leb k n && leb k (c + level)))
       to w =
           let r = ready-is S (used S cap t) t i k w in
-          and-i (ltb c k) (leb k n && leb k (c + level)) (lt→ltb c k (after-complete t i k (r .pends .from) (r .pends .left)))
-          (and-i (leb k n) (leb k (c + level)) (le→leb k n (r .pends .to)) (le→leb k (c + level) (within r)))
+          let (lo, hi) = ready-within t i k v r in
+          and-i (ltb c k) (leb k n && leb k (c + level)) (lt→ltb c k lo)
+          (and-i (leb k n) (leb k (c + level)) (le→leb k n (r .pends .to)) (le→leb k (c + level) hi))
 
       from : T (ltb c k && (leb k n && leb k (c + level))) → T (ready S (used S cap t) t (serverJob i k))
       from w =
-          let lo : c < k = ltb→lt c k (and-l (ltb c k) (leb k n && leb k (c + level)) w) in
-          let in-n : k ≤ n = leb→le k n (and-l (leb k n) (leb k (c + level)) (and-r (ltb c k) (leb k n && leb k (c + level)) w)) in
-          let hi : k ≤ c + level = leb→le k (c + level) (and-r (leb k n) (leb k (c + level)) (and-r (ltb c k) (leb k n && leb k (c + level)) w)) in
+          let A = leb k n in
+          let B = leb k (c + level) in
+          let rest : T (A && B) = and-r (ltb c k) (A && B) w in
+          let lo : c < k = ltb→lt c k (and-l (ltb c k) (A && B) w) in
+          let in-n : k ≤ n = leb→le k n (and-l A B rest) in
+          let hi : k ≤ c + level = leb→le k (c + level) (and-r A B rest) in
           is-ready S (used S cap t) t i k (record { from = omega arith; to = in-n; left = left-after t i k b lo })
           (by-lt level k (λ l. inr (is-complete t i (k - level) (omega arith) (omega arith))) (λ l. inl l))

@@ -13,7 +13,7 @@ use Rattle.rules.proofs.Tests.{by-lt, either-way}
 use Rattle.rules.proofs.Counts.{count-within}
 use Rattle.rules.proofs.Releases.{releasedBefore-one}
 use Rattle.rules.proofs.Ready.{not-running-out}
-use Rattle.rules.proofs.InTurn.{usedBy, running, running-ready, used-falls, completed, not-complete, after-complete}
+use Rattle.rules.proofs.InTurn.{usedBy, running, running-ready, used-falls, completed, ready-within}
 use Rattle.rules.proofs.LinkRows.{linkedUpTo, linked-le, linked-slow, linked-at, linked-find}
 use Rattle.rules.proofs.Linking.{linkOf, links-old, links-in-order}
 use Rattle.rules.proofs.Finishing.{Finished}
@@ -24,27 +24,13 @@ module _ (S : List Server) (cap : ℕ → ℕ) where
   before-complete t i k r l = either-way ((running-ready S cap t i k r) .free) (λ z. absurd (let x : ⊥ = omega arith in x)) (λ z. z)
 
   pub at-most-level : (t i : ℕ) → 1 ≤ (srv S i) .level → count (running S cap t i) (upTo (released (srv S i) t)) ≤ (srv S i) .level
-  at-most-level t i v = count-within (running S cap t i) (completed S cap t i) level within (released (srv S i) t)
-    where
-      level : ℕ
-      level = (srv S i) .level
-
-      within : (k : ℕ) → T (running S cap t i k) → (completed S cap t i < k) × (k ≤ completed S cap t i + level)
-      within k r =
-          let p = (running-ready S cap t i k r) .pends in (
-            after-complete S cap t i k (p .from) (p .left),
-            by-lt level k
-                (λ l. by-lt (completed S cap t i) (k - level)
-                (λ z.
-                let some-left = not-complete S cap t i (k - level) (omega arith) (omega (arith, p .to, releasedBefore-one (srv S i) t)) z in
-                absurd (let x : ⊥ = omega (arith, before-complete t i k r l) in x))
-                (λ z. omega arith))
-                (λ l. omega arith),
-          )
+  at-most-level t i v =
+      count-within (running S cap t i) (completed S cap t i) ((srv S i) .level) (λ k r. ready-within S cap t i k v (running-ready S cap t i k r))
+      (released (srv S i) t)
 
   module _ (need : ℕ → ℕ → ℕ) (most : (i j : ℕ) → i < length S → 1 ≤ j → need i j ≤ (srv S i) .budget) where
-    pub finished-before : (t i k j : ℕ) → T (running S cap t i k) → linkOf S cap need (suc t) i k ≡ j → (srv S i) .level < j → 1 ≤ (srv S i) .level
-        → Finished S cap need t i (j - (srv S i) .level)
+    pub finished-before : (t i k j : ℕ) → T (running S cap t i k) → linkOf S cap need (suc t) i k ≡ j → (srv S i) .level < j
+        → 1 ≤ (srv S i) .level → Finished S cap need t i (j - (srv S i) .level)
     unfolding releasedBefore
     finished-before t i k j r e l v =
         let level = (srv S i) .level in

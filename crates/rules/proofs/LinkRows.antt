@@ -57,7 +57,9 @@ module _ (f : ℕ → ℕ) where
 
 pub linked-cong : (f g : ℕ → ℕ) (n : ℕ) → ((k : ℕ) → 1 ≤ k → k ≤ n → f k ≡ g k) → linkedUpTo f n ≡ linkedUpTo g n
 linked-cong f g zero h = linked-zero f ∙ sym (linked-zero g)
-linked-cong f g (suc n) h = rw (linked-last f n, linked-last g n, h (suc n) (omega arith) (omega arith), linked-cong f g n (λ k a b. h k a (omega arith)))
+linked-cong f g (suc n) h =
+    let before = linked-cong f g n (λ k a b. h k a (omega arith)) in
+    rw (linked-last f n, linked-last g n, h (suc n) (omega arith) (omega arith), before)
 
 module _ (f : ℕ → ℕ) (n : ℕ) (o : InOrder f n) where
   -- a job that is linked has as its number the count so far

@@ -57,7 +57,9 @@ module _ (S : List Server) (cap : ℕ → ℕ) (need : ℕ → ℕ → ℕ) wher
   unfolding links link
   links-old t i k h g =
       by-lt i (length S)
-      (λ l. cell-in (length S) (width t) (next t) i k l h (omega (arith, releasedBefore-le (srv S i) t)) ∙ rw (le-leb k (releasedBefore (srv S i) t) g))
+      (λ l.
+      cell-in (length S) (width t) (next t) i k l h (omega (arith, releasedBefore-le (srv S i) t))
+      ∙ rw (le-leb k (releasedBefore (srv S i) t) g))
       (λ l. links-none (suc t) i k l ∙ sym (links-none t i k l))
 
   pub links-new : (t i k : ℕ) → i < length S → releasedBefore (srv S i) t < k → k ≤ released (srv S i) t → linkOf (suc t) i k ≡ newLink t i

@@ -117,8 +117,11 @@ module _ (S : List Server) where
         and-i (ready S σ t (serverJob i j)) (ltb (rank S σ t (serverJob i j)) p)
         (is-ready i j (record { from = h; to = omega (arith, now .pends .to); left = omega (arith, now .pends .left) }) (free-too (now .free)))
         (lt→ltb (rank S σ t (serverJob i j)) p
-        (omega (arith, ltb→lt (rank S σ t (serverJob i k)) p (and-r (ready S σ t (serverJob i k)) (ltb (rank S σ t (serverJob i k)) p) r), rank-grows i j k g)))
+        (omega (arith, few, rank-grows i j k g)))
       where
+        few : rank S σ t (serverJob i k) < p
+        few = ltb→lt (rank S σ t (serverJob i k)) p (and-r (ready S σ t (serverJob i k)) (ltb (rank S σ t (serverJob i k)) p) r)
+
         now : Ready i k
         now = ready-is i k (and-l (ready S σ t (serverJob i k)) (ltb (rank S σ t (serverJob i k)) p) r)
 

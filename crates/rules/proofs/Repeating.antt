@@ -127,8 +127,12 @@ module _ (S : List Server) (cap : ℕ → ℕ) (H : ℕ) (h : ℕ → ℕ) (y : 
         → linkOf S cap need (suc u) i (k + h i) ≡ moved (h i) (linkOf S cap need (suc t) i k)
     link-next i k l a b p =
         by-lt (releasedBefore (srv S i) t) k
-        (λ c. rw (links-new S cap need t i k l c b, links-new S cap need u i (k + h i) l (omega (arith, before i)) (omega (arith, now i))) (new-shift i l))
-        (λ c. rw (links-old S cap need t i k a c, links-old S cap need u i (k + h i) (omega arith) (omega (arith, before i))) (r .link i k a c (p c)))
+        (λ c.
+        let new = links-new S cap need u i (k + h i) l (omega (arith, before i)) (omega (arith, now i)) in
+        rw (links-new S cap need t i k l c b, new) (new-shift i l))
+        (λ c.
+        let old = links-old S cap need u i (k + h i) (omega arith) (omega (arith, before i)) in
+        rw (links-old S cap need t i k a c, old) (r .link i k a c (p c)))
 
     -- one more is linked on both sides, or on neither
     linked-next : (i : ℕ) → i < length S
@@ -205,7 +209,8 @@ module _ (S : List Server) (cap : ℕ → ℕ) (H : ℕ) (h : ℕ → ℕ) (y : 
           has = omega (arith, again .most i (j + h i) l (omega arith));
         }))))
       where
-        back : (k : ℕ) → f .k ≡ k + h i → 1 ≤ k → (k ≤ releasedBefore (srv S i) t → usedBy S cap t i k < budgetOf S i) → Finished S cap need (suc t) i j
+        back : (k : ℕ) → f .k ≡ k + h i → 1 ≤ k → (k ≤ releasedBefore (srv S i) t → usedBy S cap t i k < budgetOf S i)
+            → Finished S cap need (suc t) i j
         back k e b p =
             let c : k ≤ released (srv S i) t = omega (arith, f .to, now i) in
             record {
@@ -220,7 +225,8 @@ module _ (S : List Server) (cap : ℕ → ℕ) (H : ℕ) (h : ℕ → ℕ) (y : 
     pub same-links : (i k : ℕ) → 1 ≤ k → k ≤ released (srv S i) t → usedBy S cap t i k < budgetOf S i
         → linkOf S cap need (suc u) i (k + h i) ≡ moved (h i) (linkOf S cap need (suc t) i k)
     same-links i k a b p =
-        by-lt i (length S) (λ l. link-next i k l a b (λ c. p)) (λ l. rw (links-none S cap need (suc u) i (k + h i) l, links-none S cap need (suc t) i k l))
+        by-lt i (length S) (λ l. link-next i k l a b (λ c. p))
+        (λ l. rw (links-none S cap need (suc u) i (k + h i) l, links-none S cap need (suc t) i k l))
 
     agree-next : Agree S cap H h need (suc t) (suc u)
     unfolding releasedBefore
@@ -235,7 +241,8 @@ module _ (S : List Server) (cap : ℕ → ℕ) (H : ℕ) (h : ℕ → ℕ) (y : 
           fin-down = fin-down-next;
         }
 
-  one-more : (b c : ℕ) → ((i : ℕ) → (srv S i) .offset ≤ b) → (d : ℕ) → Agree S cap H h need (b + d) (c + d) → Agree S cap H h need (b + suc d) (c + suc d)
+  one-more : (b c : ℕ) → ((i : ℕ) → (srv S i) .offset ≤ b) → (d : ℕ) → Agree S cap H h need (b + d) (c + d)
+      → Agree S cap H h need (b + suc d) (c + suc d)
   one-more b c late d r = rw (add-suc b d, add-suc c d) (agree-next (b + d) (c + d) (λ i. omega (arith, late i)) r)
 
   pub agree-for-ever : (b c : ℕ) → ((i : ℕ) → (srv S i) .offset ≤ b) → Agree S cap H h need b c → (d : ℕ) → Agree S cap H h need (b + d) (c + d)

@@ -146,7 +146,8 @@ module _ (X : Box) (need : ℕ → ℕ → ℕ) (i : ℕ) (some : (j : ℕ) → 
       absurd (let x : ⊥ = omega (arith, n .not-yet) in x))
       (λ l. l)
 
-  exact-next : (t : ℕ) → (figure X need i t ≡ 0) ⊎ Exact t (figure X need i t) → (figure X need i (suc t) ≡ 0) ⊎ Exact (suc t) (figure X need i (suc t))
+  exact-next : (t : ℕ) → (figure X need i t ≡ 0) ⊎ Exact t (figure X need i t)
+      → (figure X need i (suc t) ≡ 0) ⊎ Exact (suc t) (figure X need i (suc t))
   unfolding releasedBefore best
   exact-next t r =
       by-lt (figure X need i t) (best t)
@@ -164,7 +165,9 @@ module _ (X : Box) (need : ℕ → ℕ → ℕ) (i : ℕ) (some : (j : ℕ) → 
       let e : figure X need i (suc t) ≡ figure X need i t = omega (arith, figure-next t) in
       rw e
       (either-way r (λ z. inl z)
-      (λ w. inr (record { j = w .j; from = w .from; by = finished-next (X .servers) (X .cap) need t i (w .j) (w .by); no-earlier = w .no-earlier }))))
+      (λ w.
+      let by = finished-next (X .servers) (X .cap) need t i (w .j) (w .by) in
+      inr (record { j = w .j; from = w .from; by = by; no-earlier = w .no-earlier }))))
 
   pub figure-exact : (t : ℕ) → (figure X need i t ≡ 0) ⊎ Exact t (figure X need i t)
   unfolding figure

@@ -65,7 +65,9 @@ module _ (S : List Server) (cap : ℕ → ℕ) (H : ℕ) (h : ℕ → ℕ) (y : 
     free-down i k a f =
         let v = (srv S i) .level in
         either-way f (λ l. inl (omega arith))
-        (λ c. by-lt v k (λ l. let e : k + h i - v ≡ (k - v) + h i = omega arith in inr (rw (← agree i (k - v) (omega arith)) (rw e at c))) (λ l. inl l))
+        (λ c. by-lt v k
+        (λ l. let e : k + h i - v ≡ (k - v) + h i = omega arith in inr (rw (← agree i (k - v) (omega arith)) (rw e at c)))
+        (λ l. inl l))
 
     free-up : (i k : ℕ) → 1 ≤ k → Free S σ t i k → Free S σ′ (t + H) i (k + h i)
     free-up i k a f =
@@ -88,7 +90,8 @@ module _ (S : List Server) (cap : ℕ → ℕ) (H : ℕ) (h : ℕ → ℕ) (y : 
         from x =
             let r = ready-is S σ t i k x in
             is-ready S σ′ (t + H) i (k + h i)
-            (record { from = omega arith; to = omega (arith, r .pends .to, more i); left = rw (agree i k a) (r .pends .left) }) (free-up i k a (r .free))
+            (record { from = omega arith; to = omega (arith, r .pends .to, more i); left = rw (agree i k a) (r .pends .left) })
+            (free-up i k a (r .free))
 
     not-ready : (i k : ℕ) → 1 ≤ k → k ≤ h i → T (ready S σ′ (t + H) (serverJob i k)) → ⊥
     not-ready i k a b x = let r = ready-is S σ′ (t + H) i k x in omega (arith, r .pends .left, done i k a b)

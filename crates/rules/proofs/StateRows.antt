@@ -102,7 +102,8 @@ module _ (S : List Server) (cap : ℕ → ℕ) (need : ℕ → ℕ → ℕ) wher
     same-left = sym (length-tab (pendingAt u i) (c u) (left u i)) ∙ ap length rows ∙ length-tab (pendingAt t i) (c t) (left t i)
 
     -- where h more are complete at u
-    module _ (h k : ℕ) (more : completed S cap u i ≡ completed S cap t i + h) (a : completed S cap t i < k) (b : k ≤ releasedBefore (srv S i) t) where
+    module _ (h k : ℕ) (more : completed S cap u i ≡ completed S cap t i + h) (a : completed S cap t i < k)
+        (b : k ≤ releasedBefore (srv S i) t) where
       same-job : pendingAt u i (k + h) ≡ pendingAt t i k
       same-job =
           let d = k - c t in

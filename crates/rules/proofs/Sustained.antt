@@ -20,14 +20,18 @@ use Rattle.rules.proofs.Finishing.{finished-is, is-finished}
 
 module _ (S : List Server) (cap : ℕ → ℕ) (need : ℕ → ℕ → ℕ) where
   linked-due : (t i : ℕ) → T (ltb 0 (newLink S cap need t i)) → T (dueBy S cap need t i (linkedCount S cap need t i + 1))
-  linked-due t i h = of (dueBy S cap need t i (linkedCount S cap need t i + 1)) (linkedCount S cap need t i + 1) (rw (newLink-is S cap need t i) at h)
+  linked-due t i h =
+      let n = linkedCount S cap need t i + 1 in
+      of (dueBy S cap need t i n) n (rw (newLink-is S cap need t i) at h)
     where
       of : (b : Bool) (n : ℕ) → T (ltb 0 (cond b n 0)) → T b
       of true n h = tt
       of false n h = h
 
   due-linked : (t i : ℕ) → T (dueBy S cap need t i (linkedCount S cap need t i + 1)) → T (ltb 0 (newLink S cap need t i))
-  due-linked t i h = rw (newLink-is S cap need t i) (of (dueBy S cap need t i (linkedCount S cap need t i + 1)) (linkedCount S cap need t i) h)
+  due-linked t i h =
+      let n = linkedCount S cap need t i in
+      rw (newLink-is S cap need t i) (of (dueBy S cap need t i (n + 1)) n h)
     where
       of : (b : Bool) (n : ℕ) → T b → T (ltb 0 (cond b (n + 1) 0))
       of true n h = lt→ltb 0 (n + 1) (omega arith)

@@ -106,9 +106,13 @@ module _ (S : List Server) (H O : ℕ) where
       let rest = ofGraphs (base + length (G .nodes)) (suc g) Gs in
       let f = fits G (List·Memᴰ·head refl) in
       let ln : length on ≡ length (G .nodes) = length-ofNodes base g 1 G (G .nodes) in
-      let total : length S ≡ base + (length on + length rest) = ap length e ∙ length-append pre (on ++ rest) ∙ ap (λ (x : ℕ). base + x) (length-append on rest) in
+      let both : length (on ++ rest) ≡ length on + length rest = length-append on rest in
+      let total : length S ≡ base + (length on + length rest) = ap length e ∙ length-append pre (on ++ rest) ∙ ap (λ (x : ℕ). base + x) both in
       let place : (q : ℕ) → q < length (G .nodes) → srv S (base + q) ≡ srv on q =
-      λ q l. ap (λ (l : List Server). srv l (base + q)) e ∙ getD-append-add pre (on ++ rest) q noServer ∙ List·getD-append on rest noServer q (omega arith) in
+      λ q l.
+      ap (λ (l : List Server). srv l (base + q)) e
+      ∙ getD-append-add pre (on ++ rest) q noServer
+      ∙ List·getD-append on rest noServer q (omega arith) in
       let len : length (pre ++ on) ≡ base + length (G .nodes) = length-append pre on ∙ ap (λ (x : ℕ). base + x) ln in
       let again : S ≡ (pre ++ on) ++ ofGraphs (length (pre ++ on)) (suc g) Gs = rw len (e ∙ sym (append-assoc pre on rest)) in
       either-way (List·Memᴰ·append-cases on m)
@@ -177,7 +181,9 @@ module _ (X : Table) (ok : T (wellFormed X)) where
               some = hyperperiod-some X (λ G m. (formed X ok G m) .period-some);
               same-cap = λ t. refl;
             };
-        graph = λ i l. all-under (beside S (srv S i)) (beside S (srv S i)) (same i) (λ p b _. as-many i p b) ((srv S i) .predecessors) ((server-fits i l) .same-graph) ((server-fits i l) .same-graph);
+        graph = λ i l.
+            let beside-i = (server-fits i l) .same-graph in
+            all-under (beside S (srv S i)) (beside S (srv S i)) (same i) (λ p b _. as-many i p b) ((srv S i) .predecessors) beside-i beside-i;
         offsets = λ i. by-lt i (length S) (λ l. (server-fits i l) .offset-le) (λ l. rw (no-server i l) zero-le);
       }
     where
@@ -192,8 +198,8 @@ module _ (X : Table) (ok : T (wellFormed X)) where
           let A = ltb p (length S) in
           let B = eqb ((srv S p) .period) ((srv S i) .period) in
           let C = eqb ((srv S p) .offset) ((srv S i) .offset) in
-          and-i A (eqb (many p) (many i)) (and-l A (B && C) t)
-          (eq→eqb (many p) (many i) (ap (λ (x : ℕ). hyperperiod X / x) (eqb→eq ((srv S p) .period) ((srv S i) .period) (and-l B C (and-r A (B && C) t)))))
+          let e : (srv S p) .period ≡ (srv S i) .period = eqb→eq ((srv S p) .period) ((srv S i) .period) (and-l B C (and-r A (B && C) t)) in
+          and-i A (eqb (many p) (many i)) (and-l A (B && C) t) (eq→eqb (many p) (many i) (ap (λ (x : ℕ). hyperperiod X / x) e))
 
   pub sink-is : (g : ℕ) → g < length (X .graphs)
       → (g < length (boxOf X .sinks)) × (getD (boxOf X .sinks) g 0 < length S) × (0 < (srv S (getD (boxOf X .sinks) g 0)) .budget)

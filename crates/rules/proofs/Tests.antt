@@ -86,7 +86,8 @@ none-of true h = absurd (h tt)
 none-of false h = refl
 
 -- over a list whose entries pass r: where p passes, q passes
-pub all-under : {A : Type 0} (r p q : A → Bool) → ((x : A) → T (r x) → T (p x) → T (q x)) → (l : List A) → T (all? r l) → T (all? p l) → T (all? q l)
+pub all-under : {A : Type 0} (r p q : A → Bool) → ((x : A) → T (r x) → T (p x) → T (q x)) → (l : List A)
+    → T (all? r l) → T (all? p l) → T (all? q l)
 all-under r p q h [] u t = tt
 all-under r p q h (x ∷ xs) u t =
     and-i (q x) (all? q xs) (h x (and-l (r x) (all? r xs) u) (and-l (p x) (all? p xs) t))

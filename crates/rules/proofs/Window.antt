@@ -29,7 +29,8 @@ release-to-now s t k o a b =
     let r : cond (ltb t (s .offset)) 0 (q + 1) ≡ q + 1 = rw (le-ltb t (s .offset) o) in
     let b′ : k ≤ q + 1 = rw r at b in
     let e : (k - 1) + (q + 1 - k) ≡ q = omega arith in
-    let m : (k - 1) * s .period + (q + 1 - k) * s .period ≡ q * s .period = sym (add-mul (k - 1) (q + 1 - k) (s .period)) ∙ ap (λ (x : ℕ). x * s .period) e in
+    let m : (k - 1) * s .period + (q + 1 - k) * s .period ≡ q * s .period =
+    sym (add-mul (k - 1) (q + 1 - k) (s .period)) ∙ ap (λ (x : ℕ). x * s .period) e in
     rw r (omega (arith, m, div-add-mod' (t - s .offset) (s .period)))
 
 module _ (S : List Server) (cap : ℕ → ℕ) (need : ℕ → ℕ → ℕ) where
@@ -65,14 +66,16 @@ module _ (S : List Server) (cap : ℕ → ℕ) (need : ℕ → ℕ → ℕ) wher
         → T (finishedBy S cap need t p (linkedCount S cap need t i + 1))
     unfolding nodeState finishedCount finishedBy
     if-fewer t p i e l =
-        first-pass (λ (j : ℕ). finishedBy S cap need t p j) (in-order t p) (releasedBefore (srv S p) t) (linkedCount S cap need t i + 1) (omega arith)
+        let m = linkedCount S cap need t i in
+        first-pass (λ (j : ℕ). finishedBy S cap need t p j) (in-order t p) (releasedBefore (srv S p) t) (m + 1) (omega arith)
         (omega (arith, linked-count S cap need t i))
 
     after-by-counts : (t i : ℕ) → releasedBefore (srv S i) t < released (srv S i) t → (ps : List ℕ) → T (all? (alongside t i) ps)
         → dueAfter S need (used S cap t) (links S cap need t) t i (linkedCount S cap need t i + 1) ps ≡ all? (fewer t i) ps
     unfolding dueAfter finishedBy
     after-by-counts t i now [] g =
-        le-leb (linkedCount S cap need t i + 1) (released (srv S i) t) (omega (arith, linked-le (linkOf S cap need t i) (releasedBefore (srv S i) t)))
+        let m = linkedCount S cap need t i in
+        le-leb (m + 1) (released (srv S i) t) (omega (arith, linked-le (linkOf S cap need t i) (releasedBefore (srv S i) t)))
     after-by-counts t i now (p ∷ ps) g =
         bool-ext (all? fin (p ∷ ps)) (all? (fewer t i) (p ∷ ps)) (all-under (alongside t i) fin (fewer t i) up (p ∷ ps) g)
         (all-under (alongside t i) (fewer t i) fin down (p ∷ ps) g)
