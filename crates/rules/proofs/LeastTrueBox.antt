@@ -71,7 +71,7 @@ module _ (X : Box) (h : ℕ → ℕ) (sound : Sound X h) (need : ℕ → ℕ →
   module _ (i R : ℕ) (l : i < length (X .servers)) (bound : (j : ℕ) → 1 ≤ j → Fin u i j → Fin (release i j + R) i j) where
     periods-later : (t j : ℕ) → s .before ≤ t → 1 ≤ j → Fin t i j → Fin (t + X .hyper) i (j + h i)
     periods-later t j late a f =
-        let same = (repetition X h sound need again (s .before) (s .late) (s .equal) t late) .finishes i j l a in
+        let same = (repetition X h need sound again (s .before) (s .late) (s .equal) t late) .finishes i j l a in
         finished-is (X .servers) (X .cap) need (t + X .hyper) i (j + h i) (rw same (is-finished (X .servers) (X .cap) need t i j f))
 
     later : (j : ℕ) → 1 ≤ j → (Fin u i (j + h i) → ⊥) → Fin (release i j + R) i j → Fin (release i (j + h i) + R) i (j + h i)
@@ -114,7 +114,7 @@ module _ (X : Box) (h : ℕ → ℕ) (sound : Sound X h) where
   abbrev w : ℕ → ℕ → ℕ
   w = whole (X .servers)
 
-  whole-repeats : Repeated (X .servers) h w
+  pub whole-repeats : Repeated (X .servers) h w
   unfolding whole
   whole-repeats = record { same = λ i j l a. refl; most = λ i j l a. le-refl ((srv (X .servers) i) .budget) }
 

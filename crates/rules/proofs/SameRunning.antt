@@ -112,6 +112,9 @@ module _ (S : List Server) (cap : ℕ → ℕ) (H : ℕ) (h : ℕ → ℕ) (y : 
         old : ServerJob → Bool
         old x = ready S σ t x && before S x (serverJob i k)
 
+        is-ready-too : (x : ServerJob) → T (new x) → T (ready S σ′ (t + H) x)
+        is-ready-too x n = and-l (ready S σ′ (t + H) x) (before S x (serverJob i (k + h i))) n
+
         part : (j : ℕ) → count new (jobs (t + H) j) ≡ count old (jobs t j)
         part j =
             let e : released (srv S j) (t + H) ≡ h j + released (srv S j) t = omega (arith, more j) in
@@ -119,7 +122,7 @@ module _ (S : List Server) (cap : ℕ → ℕ) (H : ℕ) (h : ℕ → ℕ) (y : 
             (omega (
               arith,
               count-none new j 1 (h j)
-                  (λ l b c n. not-ready j l b (omega arith) (and-l (ready S σ′ (t + H) (serverJob j l)) (before S (serverJob j l) (serverJob i (k + h i))) n)),
+                  (λ l b c n. not-ready j l b (omega arith) (is-ready-too (serverJob j l) n)),
               jobs-shift new old j (h j) 1 (released (srv S j) t) (λ l b. rw (ready-shift j l b, before-shift j l i k b a)),
             ))
 
