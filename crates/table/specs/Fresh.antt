@@ -1,7 +1,7 @@
 -- A table with no graph, an empty server, and the state at instant 0, in the form of the code's structs.
 use mathlib.Core.Bool.{false}
 use mathlib.Core.List.{List}
-use Prim.Native.Nat.{ℕ}
+use Prim.Native.Nat.{ℕ, _*_}
 use lib.ListN.{replicate}
 use Rattle.rules.specs.Limits as Rules
 use Rattle.table.specs.declared.Table.{Table}
@@ -30,10 +30,21 @@ emptyTable p r =
     }
 
 abbrev pub noJob : Pending
-noJob = record { left = 0; behind = 0; linked = false }
+noJob = record { behind = 0; linked = false }
 
 abbrev pub emptyServer : Server
-emptyServer = record { jobs = replicate Rules.pending noJob; count = 0; unfinished = 0; unlinked = 0 }
+emptyServer = record { jobs = replicate Rules.pending noJob; worst = 0; unfinished = 0; unlinked = 0 }
+
+-- the slots of all windows
+abbrev pub slots : ℕ
+slots = Rules.allNodes .to * Rules.pending
 
 abbrev pub freshState : List ℕ → State
-freshState offsets = record { servers = replicate (Rules.allNodes .to) emptyServer; until = offsets }
+freshState offsets =
+    record {
+      servers = replicate (Rules.allNodes .to) emptyServer;
+      left = replicate slots 0;
+      first = replicate (Rules.allNodes .to) 0;
+      count = replicate (Rules.allNodes .to) 0;
+      until = offsets;
+    }

@@ -61,25 +61,29 @@ pub struct Table {
     pub node: [Node; Table::SERVERS],
 }
 
-// A pending server job: its budget left and, where it is linked, by how many numbers the job lies behind it.
+// A pending server job: where it is linked, by how many numbers the job lies behind it. Its budget left stands in `State`.
 pub struct Pending {
-    pub left: u16,
     pub behind: u8,
     pub linked: bool,
 }
 
-// A server's window: its pending server jobs, the oldest first, and the counts of document 01's state.
+// A server's window: its pending server jobs, the oldest first; the counts of document 01's state; the largest response of its jobs so far.
 pub struct Server {
     pub jobs: [Pending; Table::WINDOW],
-    pub count: u8,
+    pub worst: u32,
     pub unfinished: u8,
     pub unlinked: u8,
 }
 
-// What a walk keeps: a window for each server and, for each graph, the ticks until its next release.
+// What a walk keeps. For each server, by its place: the window; how many server jobs are pending; the budget left of each, at place ×
+// WINDOW + slot; the key of the oldest, which is its deadline × SERVERS + place; and the ticks until the next release. What changes in each
+// tick stands in arrays of numbers, since an array inside an array of structs is changed by copying the struct.
 pub struct State {
     pub servers: [Server; Table::SERVERS],
-    pub until: [u16; Table::GRAPHS],
+    pub left: [u16; Table::SLOTS],
+    pub first: [u32; Table::SERVERS],
+    pub count: [u8; Table::SERVERS],
+    pub until: [u16; Table::SERVERS],
 }
 
 impl Table {
@@ -141,6 +145,12 @@ impl Table {
     pub const SERVERS: usize = Table::ALL_NODES_TO as usize;
 
     pub const WINDOW: usize = Table::PENDING as usize;
+
+    pub const SLOTS: usize = Table::SERVERS * Table::WINDOW;
+
+    pub const READY: usize = Table::SERVERS * Table::LEVEL_TO as usize;
+
+    pub const RUNNING: usize = Table::PROCESSORS_TO as usize;
 
     // The nine keys in the order in which they stand.
     pub const NAME_LENGTH: usize = 10;
@@ -324,25 +334,27 @@ impl Table {
         ensures { λ r. ⌜ r ≡ emptyServer ⌝ }
     {
         let p = Pending {
-            left: 0,
             behind: 0,
             linked: false,
         };
         Server {
             jobs: [p; Table::WINDOW],
-            count: 0,
+            worst: 0,
             unfinished: 0,
             unlinked: 0,
         }
     }
 
-    // The state at instant 0: each graph's first release is its offset away.
-    pub fn fresh(offsets: [u16; Table::GRAPHS]) -> State
+    // The state at instant 0: each server's first release is its offset away.
+    pub fn fresh(offsets: [u16; Table::SERVERS]) -> State
         ensures { λ r. ⌜ r ≡ freshState offsets ⌝ }
     {
         let s = Table::empty_server();
         State {
             servers: [s; Table::SERVERS],
+            left: [0u16; Table::SLOTS],
+            first: [0u32; Table::SERVERS],
+            count: [0u8; Table::SERVERS],
             until: offsets,
         }
     }

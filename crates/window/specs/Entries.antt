@@ -1,0 +1,70 @@
+-- The entries of a state and of a plan by place. These definitions, and all of this crate's, are for the proof and not for belief: what a
+-- reader believes is the rules.
+use mathlib.Core.Bool.{Bool, false}
+use mathlib.Core.List.{List, []}
+use Prim.Native.Nat.{ℕ, _+_, _*_, _-_, _^_, min}
+use lib.ListN.{getD}
+use Rattle.rules.specs.Limits as Limits
+use Rattle.table.specs.declared.Pending.{Pending}
+use Rattle.table.specs.declared.Server.{Server}
+use Rattle.table.specs.declared.State.{State}
+use Rattle.window.specs.declared.Work.{Work}
+use Rattle.window.specs.declared.Plan.{Plan}
+
+-- how many places there are, and how many slots a window has
+abbrev pub places : ℕ
+places = Limits.allNodes .to
+
+abbrev pub window : ℕ
+window = Limits.pending
+
+-- what an entry outside of its list is
+abbrev pub noJob : Pending
+noJob = record { behind = 0; linked = false }
+
+abbrev pub noServer : Server
+noServer = record { jobs = []; worst = 0; unfinished = 0; unlinked = 0 }
+
+abbrev pub noWork : Work
+noWork = record { budget = 0; sink = false; after = 0 }
+
+-- the largest key: past every key of a server job
+abbrev pub lastKey : ℕ
+lastKey = 2 ^ 32 - 1
+
+abbrev pub slotOf : Server → ℕ → Pending
+slotOf s d = getD (s .jobs) d noJob
+
+module _ (st : State) where
+  abbrev pub serverAt : ℕ → Server
+  serverAt i = getD (st .servers) i noServer
+
+  abbrev pub countAt : ℕ → ℕ
+  countAt i = getD (st .count) i 0
+
+  abbrev pub firstAt : ℕ → ℕ
+  firstAt i = getD (st .first) i 0
+
+  abbrev pub untilAt : ℕ → ℕ
+  untilAt i = getD (st .until) i 0
+
+  -- the budget left of slot d
+  abbrev pub leftAt : ℕ → ℕ → ℕ
+  leftAt i d = getD (st .left) (i * window + d) 0
+
+module _ (plan : Plan) where
+  abbrev pub workAt : ℕ → Work
+  workAt i = getD (plan .work) i noWork
+
+  abbrev pub levelAt : ℕ → ℕ
+  levelAt i = getD (plan .level) i 0
+
+  abbrev pub periodAt : ℕ → ℕ
+  periodAt i = getD (plan .period) i 0
+
+  abbrev pub stepAt : ℕ → ℕ
+  stepAt i = getD (plan .step) i 0
+
+  -- the places of the plan's nodes
+  abbrev pub nodesOf : ℕ
+  nodesOf = min (plan .nodes) places
