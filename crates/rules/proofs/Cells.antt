@@ -1,10 +1,10 @@
--- A table of numbers that is written out is the function that it was written from, and 0 outside.
+-- A table of numbers that is written out is the function that it was written from, and 0 outside; and an entry of a mapped list.
 use mathlib.Core.Path.{_≡_, refl, ap, _∙_}
-use mathlib.Core.List.{List, []}
+use mathlib.Core.List.{List, [], _∷_, map}
 use Prim.Native.Nat.{ℕ, zero, suc, _+_, _≤_, _<_}
 use native.Mathlib.Nat.{add-zero, zero-add, le-of-suc-le-suc, not-suc-le-zero}
 use native.Mathlib.Omega.{arith}
-use lib.ListN.{getD}
+use lib.ListN.{length, getD}
 use Rattle.rules.specs.Lists.{tab, nth, cell, written}
 use Rattle.rules.proofs.Tests.{by-lt}
 
@@ -18,6 +18,11 @@ module _ {B : Type 0} where
   getD-tab-out f a zero i d h = refl
   getD-tab-out f a (suc n) zero d h = absurd (not-suc-le-zero h)
   getD-tab-out f a (suc n) (suc i) d h = getD-tab-out f (suc a) n i d (le-of-suc-le-suc h)
+
+pub getD-map : (f : ℕ → ℕ) (l : List ℕ) (k : ℕ) → k < length l → getD (map f l) k 0 ≡ f (getD l k 0)
+getD-map f [] k h = absurd (not-suc-le-zero h)
+getD-map f (x ∷ xs) zero h = refl
+getD-map f (x ∷ xs) (suc k) h = getD-map f xs k (omega arith)
 
 nth-tab : (f : ℕ → ℕ) (n k : ℕ) → 1 ≤ k → k ≤ n → nth (tab f 1 n) k ≡ f k
 nth-tab f n zero h u = absurd (not-suc-le-zero h)
