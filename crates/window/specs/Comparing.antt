@@ -1,7 +1,7 @@
 -- The comparison of two states, field by field over the windows: what the engine's functions compute.
 use mathlib.Core.Bool.{Bool, true, false, _&&_, not}
 use mathlib.Core.List.{List}
-use Prim.Native.Nat.{ℕ, _+_, _*_}
+use Prim.Native.Nat.{ℕ, _+_, _*_, min}
 use lib.Dec.{eqb}
 use lib.ListN.{getD}
 use Rattle.table.specs.declared.Pending.{Pending}
@@ -29,7 +29,7 @@ abbrev pub sameServer : State → State → ℕ → Bool
 sameServer a b i =
     eqb (countAt a i) (countAt b i)
     && (eqb (untilAt a i) (untilAt b i)
-    && (sameCounts (serverAt a i) (serverAt b i) && sameSlots (serverAt a i) (serverAt b i) (a .left) (b .left) (i * window) (countAt a i)))
+    && (sameCounts (serverAt a i) (serverAt b i) && sameSlots (serverAt a i) (serverAt b i) (a .left) (b .left) (i * window) (min (countAt a i) window)))
 
 abbrev pub sameStates : State → State → ℕ → Bool
 sameStates a b n = allBelow (sameServer a b) n
