@@ -30,3 +30,5 @@ pub mod Hyperperiod
 pub mod Formed
 pub mod TableBox
 pub mod LeastTrue
+pub mod Decimal
+pub mod TrueReports

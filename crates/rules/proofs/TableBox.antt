@@ -123,7 +123,7 @@ module _ (S : List Server) (H O : ℕ) where
       1 (G .nodes) (omega arith) (f .is-formed .nodes) s m)
       (λ m. graphs-fit (pre ++ on) (suc g) Gs again (λ G m. fits G (List·Memᴰ·tail m)) s (rw len m))
 
-length-sinks : (base : ℕ) (Gs : List Graph) → length (sinksOf base Gs) ≡ length Gs
+pub length-sinks : (base : ℕ) (Gs : List Graph) → length (sinksOf base Gs) ≡ length Gs
 unfolding sinksOf
 length-sinks base [] = refl
 length-sinks base (G ∷ Gs) = ap suc (length-sinks (base + length (G .nodes)) Gs)

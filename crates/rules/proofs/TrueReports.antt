@@ -1,0 +1,83 @@
+-- A report that is given is true: from the bytes of a table to its text, each `response=` is the least true figure of its graph.
+use mathlib.Core.Path.{_≡_, refl, sym, ap, _∙_}
+use mathlib.Core.List.{List, [], _∷_, map}
+use Prim.Native.Nat.{ℕ, zero, suc, _<_}
+use native.Mathlib.Omega.{arith}
+use lib.ListN.{length, getD}
+use Rattle.rules.specs.declared.Refusal.{Refusal}
+use Rattle.rules.specs.declared.Refusal.the-variants.{TooLong, Misspelled, OutsideLimits, AgainstPredecessorRules, LongHyperperiod, NotLoadable}
+use Rattle.rules.specs.declared.Refusal.the-variants.{Backlog, Unsettled, PastTheStop, ShortBuffer}
+use Rattle.rules.specs.Refusals.{numberOf, answerNumber}
+use Rattle.rules.specs.Table.{Table}
+use Rattle.rules.specs.Servers.{boxOf, whole}
+use Rattle.rules.specs.Walk.{Stop, settled, unsettled, backlog, Walked, stopped, figures, walked}
+use Rattle.rules.specs.Reading.{Admission, admitted, refused, admissionOf}
+use Rattle.rules.specs.Answers.{Reply, says, refuses, reportText, reportOn, reportAdmitted, wholeWalk, reportOf, fitted, left, callOf}
+use Rattle.rules.specs.Demands.{TrueReport}
+use Rattle.rules.proofs.ReadWellFormed.{admitted-well-formed}
+use Rattle.rules.proofs.TableBox.{length-sinks}
+use Rattle.rules.proofs.LeastTrue.{figures-are-least-true}
+
+length-map : {A B : Type 0} (f : A → B) (l : List A) → length (map f l) ≡ length l
+length-map f [] = refl
+length-map f (x ∷ xs) = ap suc (length-map f xs)
+
+-- no refusal has the number 0
+number-some : (r : Refusal) → numberOf r ≡ 0 → ⊥
+number-some TooLong e = omega arith
+number-some (Misspelled l) e = omega arith
+number-some (OutsideLimits l) e = omega arith
+number-some (AgainstPredecessorRules l) e = omega arith
+number-some LongHyperperiod e = omega arith
+number-some NotLoadable e = omega arith
+number-some Backlog e = omega arith
+number-some Unsettled e = omega arith
+number-some PastTheStop e = omega arith
+number-some ShortBuffer e = omega arith
+
+module _ (bytes : List ℕ) where
+  report-is : (U : Table) → admissionOf bytes ≡ admitted U → (how : Stop) → (wholeWalk (boxOf U)) .how ≡ how
+      → reportOf bytes ≡ reportOn how ((wholeWalk (boxOf U)) .ticks) ((wholeWalk (boxOf U)) .figures)
+  unfolding reportOf
+  report-is U e how h = rw (e, h)
+
+  settled-report : (U : Table) (k : ℕ) → admissionOf bytes ≡ admitted U → (wholeWalk (boxOf U)) .how ≡ settled k → TrueReport bytes
+  unfolding walked figures
+  settled-report U k e h =
+      let w = wholeWalk (boxOf U) in
+      record {
+        table = U;
+        is-admitted = e;
+        round = k;
+        ticks = w .ticks;
+        figures = w .figures;
+        text = report-is U e (settled k) h;
+        many = length-map _ (boxOf U .sinks) ∙ length-sinks 0 (U .graphs);
+        least-true = λ g l. figures-are-least-true U ((admitted-well-formed bytes U e) .0) k h g l;
+      }
+
+  of-walk : (U : Table) → admissionOf bytes ≡ admitted U → (s : List ℕ) → (how : Stop) → (wholeWalk (boxOf U)) .how ≡ how → reportOf bytes ≡ says s
+      → TrueReport bytes
+  of-walk U e s (settled k) h r = settled-report U k e h
+  of-walk U e s unsettled h r = let q = sym (report-is U e unsettled h) ∙ r in let z : _≡_ {A = ℕ} 0 1 = cc in absurd (let x : ⊥ = omega arith in x)
+  of-walk U e s backlog h r = let q = sym (report-is U e backlog h) ∙ r in let z : _≡_ {A = ℕ} 0 1 = cc in absurd (let x : ⊥ = omega arith in x)
+
+  of-admission : (s : List ℕ) (a : Admission) → admissionOf bytes ≡ a → reportOf bytes ≡ says s → TrueReport bytes
+  unfolding reportOf
+  of-admission s (admitted U) e r = of-walk U e s ((wholeWalk (boxOf U)) .how) refl r
+  of-admission s (refused f) e r =
+      let q : refuses f ≡ says s = ap (reportAdmitted wholeWalk) (sym e) ∙ r in
+      let z : _≡_ {A = ℕ} 0 1 = cc in
+      absurd (let x : ⊥ = omega arith in x)
+
+  pub a-report-is-true : (s : List ℕ) → reportOf bytes ≡ says s → TrueReport bytes
+  a-report-is-true s r = of-admission s (admissionOf bytes) refl r
+
+  of-reply : (buffer : List ℕ) (r : Reply) → reportOf bytes ≡ r → answerNumber ((callOf buffer r) .answer) ≡ 0 → TrueReport bytes
+  unfolding callOf fitted left
+  of-reply buffer (says s) e z = a-report-is-true s e
+  of-reply buffer (refuses f) e z = absurd (number-some f z)
+
+  -- of what a call returns
+  pub an-answered-report-is-true : (buffer : List ℕ) → answerNumber ((callOf buffer (reportOf bytes)) .answer) ≡ 0 → TrueReport bytes
+  an-answered-report-is-true buffer z = of-reply buffer (reportOf bytes) refl z
