@@ -13,6 +13,7 @@ use Rattle.rules.specs.Links.{links}
 use Rattle.rules.specs.State.{sameState, state, stateAt}
 use Rattle.rules.specs.Walk.{Stop, settled, unsettled, backlog, Stopped, backlogged, boundary, atBoundary, roundAt, stopWith, stopAt}
 use Rattle.rules.specs.Walk.{firstStop, stopped}
+use Rattle.rules.proofs.Unique.{FirstStop}
 use Rattle.rules.proofs.Tests.{by-lt}
 
 -- the second test passes
@@ -54,12 +55,8 @@ module _ (X : Box) (need : ℕ → ℕ → ℕ) where
   search-from zero t a b = absurd (let x : ⊥ = omega arith in x)
   search-from (suc left) t a b = step left t a (λ c. search-from left (suc t) c (omega arith)) (stopAt X need t) refl
 
-  pub record First (s : Stopped) : Type 0 where
-    pub stops : stopAt X need (s .ticks) ≡ some (s .how)
-    pub none-before : (u : ℕ) → u < s .ticks → stopAt X need u ≡ none
-
-  pub stopped-is-first : First (stopped X need)
+  pub stopped-is-first : FirstStop X need ((stopped X need) .how) ((stopped X need) .ticks)
   unfolding stopped
   stopped-is-first =
       let w = search-from (suc last) 0 zero-le (omega arith) in
-      record { stops = w .stops; none-before = λ u l. w .first u zero-le l }
+      record { stops = w .stops; not-before = λ u l. w .first u zero-le l }

@@ -76,7 +76,7 @@ module _ (S : List Server) (cap : ℕ → ℕ) (need : ℕ → ℕ → ℕ) wher
   left t i = releasedBefore (srv S i) t - completed S cap t i
 
   -- the pending server jobs are those after the complete ones
-  row-is : (t i : ℕ) → rowOf t i ≡ tab (pendingAt t i) (suc (completed S cap t i)) (left t i)
+  pub row-is : (t i : ℕ) → rowOf t i ≡ tab (pendingAt t i) (suc (completed S cap t i)) (left t i)
   unfolding pendingJobs
   row-is t i =
       let n = releasedBefore (srv S i) t in

@@ -28,6 +28,10 @@ use Rattle.window.specs.Choosing.{nextKey}
 use Rattle.window.specs.Comparing.{sameStates}
 use Rattle.window.specs.Ticking.{releasedAt, worked}
 use Rattle.window.proofs.Relation.{lastInstant, Fits, InStep, Released}
+use Rattle.window.proofs.Backlog.{backlog-is}
+use Rattle.window.proofs.Release.{release-keeps}
+use Rattle.window.proofs.Compare.{same-states}
+use Rattle.window.proofs.Working.{works}
 use Rattle.walking.specs.declared.How.{How}
 use Rattle.walking.specs.declared.How.the-variants.{Settled, Unsettled, Backlog, Reached}
 use Rattle.walking.specs.declared.Walk.{Walk}
@@ -75,13 +79,8 @@ some-or p q h (suc n) e = both (someBelow p n) (p n) (someBelow q n) (q n) (some
 gated : (plan : Plan) (st : State) (n : ℕ) → (anyReleases (st .until) n && backlogged plan st n) ≡ backlogged plan st n
 gated plan st n = either-way (dec (anyReleases (st .until) n)) (λ e. rw e) (λ e. rw (e, some-or (releases (st .until)) (full plan st) (λ i z. rw z) n e))
 
-module _ (X : Box) (plan : Plan) (hyper-some : 0 < X .hyper) (time : X .origin + X .rounds * X .hyper ≤ lastInstant)
-    (backlog-is : (t : ℕ) (st : State) → InStep X t st
-    → backlogged plan st (nodesOf plan) ≡ Rules.backlogged (X .servers) (whole (X .servers)) (used (X .servers) (X .cap) t) (links (X .servers) (X .cap) (whole (X .servers)) t) t (X .sinks))
-    (release-keeps : (t : ℕ) (st : State) → t ≤ lastInstant → InStep X t st → backlogged plan st (nodesOf plan) ≡ false → Released X t (releasedAt plan t st))
-    (same-is : (t u : ℕ) (a b : State) → X .origin ≤ t → X .origin ≤ u → InStep X t a → InStep X u b
-    → sameStates a b (nodesOf plan) ≡ sameState (stateAt X (whole (X .servers)) t) (stateAt X (whole (X .servers)) u))
-    (work-keeps : (t : ℕ) (a : State) → t < lastInstant → Released X t a → InStep X (suc t) (worked plan t a)) where
+module _ (X : Box) (plan : Plan) (fits : Fits X plan) (hyper-some : 0 < X .hyper) (time : X .origin + X .rounds * X .hyper ≤ lastInstant)
+    (late : (i : ℕ) → i < length (X .servers) → (srv (X .servers) i) .offset ≤ X .origin) where
   abbrev nodes : ℕ
   nodes = nodesOf plan
 
@@ -115,7 +114,8 @@ module _ (X : Box) (plan : Plan) (hyper-some : 0 < X .hyper) (time : X .origin +
         let q : t ≡ next = eqb-true t next e in
         let p : 0 < round = ltb-true 0 round f in
         let far : X .origin + X .hyper ≤ next = far-from round refl p in
-        let same = same-is t (t - X .hyper) st saved (omega arith) (omega arith) (k .in-step) (rw q (k .kept p)) in
+        let same = same-states X plan fits t (t - X .hyper) st saved (k .in-step) (rw q (k .kept p)) (λ i h. omega (arith, late i h))
+        (λ i h. omega (arith, late i h)) in
         rw (e, f) (sym same))
         (λ f. rw (e, f)))
         (λ e. rw e))
@@ -137,7 +137,7 @@ module _ (X : Box) (plan : Plan) (hyper-some : 0 < X .hyper) (time : X .origin +
 
     backlog-test : Rules.backlogged (X .servers) (need X) (used (X .servers) (X .cap) t) (links (X .servers) (X .cap) (need X) t) t (X .sinks) ≡ C
     unfolding C
-    backlog-test = sym (backlog-is t st (k .in-step)) ∙ sym (gated plan st nodes)
+    backlog-test = sym (backlog-is X plan fits t st (k .in-step)) ∙ sym (gated plan st nodes)
 
     stop-is : stopAt X (need X) t ≡ cond A (some (settled round)) (cond B (some unsettled) (cond C (some backlog) none))
     unfolding stopAt stopWith stateAt
@@ -153,7 +153,7 @@ module _ (X : Box) (plan : Plan) (hyper-some : 0 < X .hyper) (time : X .origin +
 
     now-released : C ≡ false → Released X t (releasedAt plan t st)
     unfolding C boundary
-    now-released c = release-keeps t st (omega (arith, in-time)) (k .in-step) (sym (gated plan st nodes) ∙ c)
+    now-released c = release-keeps X plan fits t st (k .in-step) (omega (arith, in-time)) (sym (gated plan st nodes) ∙ c)
 
     -- the walk goes on: the next instant is known in turn
     module _ (a : A ≡ false) (b : B ≡ false) (c : C ≡ false) (d : eqb t asked ≡ false) where
@@ -162,7 +162,7 @@ module _ (X : Box) (plan : Plan) (hyper-some : 0 < X .hyper) (time : X .origin +
 
       worked-on : t < boundary X (need X) (X .rounds) → InStep X (suc t) (worked plan t (releasedAt plan t st))
       unfolding boundary
-      worked-on l = work-keeps t (releasedAt plan t st) (omega arith) (now-released c)
+      worked-on l = works X plan t (releasedAt plan t st) fits (now-released c) (omega arith)
 
       not-last : t < boundary X (need X) (X .rounds)
       unfolding B

@@ -1,2 +1,3 @@
 pub mod Boundaries
 pub mod Ends
+pub mod Walked

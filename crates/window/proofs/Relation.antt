@@ -49,6 +49,9 @@ module _ (X : Box) (plan : Plan) where
     pub same-graph : T (all? (beside S (srv S i)) ((srv S i) .predecessors))
     -- a sink, or a predecessor of a later node of the same graph: so each node leads to its graph's sink
     pub leads : T (any? (eqb i) (X .sinks)) ⊎ ((n : ℕ) × (i < n) × (n < length S) × T (any? (eqb i) ((srv S n) .predecessors)))
+    -- the numbers that a row shows
+    pub graph : (workAt plan i) .graph ≡ (srv S i) .graph
+    pub node : (workAt plan i) .node ≡ (srv S i) .node
 
   pub record Fits : Type 0 where
     pub nodes : plan .nodes ≡ length S

@@ -26,7 +26,7 @@ abbrev pub noServer : Server
 noServer = record { jobs = []; worst = 0; unfinished = 0; unlinked = 0 }
 
 abbrev pub noWork : Work
-noWork = record { budget = 0; sink = false; after = 0 }
+noWork = record { budget = 0; sink = false; after = 0; graph = 0; node = 0 }
 
 -- the largest key: past every key of a server job
 abbrev pub lastKey : ℕ
