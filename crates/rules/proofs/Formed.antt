@@ -1,94 +1,107 @@
--- What a well-formed table has, as facts about its graphs, nodes and predecessors.
-use mathlib.Core.Bool.{Bool, _&&_}
-use mathlib.Core.List.{List, [], _∷_, List·Memᴰ, List·Memᴰ·head, List·Memᴰ·tail}
-use Prim.Native.Nat.{ℕ, suc, _≤_, _<_}
+-- What the tests of well-formedness say, fact by fact: nothing else takes them apart.
+use mathlib.Core.Path.{_≡_, refl}
+use mathlib.Core.Bool.{Bool, true, false, _&&_}
+use mathlib.Core.List.{List, _∷_}
+use Prim.Native.Nat.{ℕ, suc, _≤_}
 use native.Mathlib.Omega.{arith}
-use lib.Dec.{T, leb, ltb, leb→le, le→leb, ltb→lt}
+use lib.Dec.{leb}
 use lib.ListN.{length}
+use borrow.Author.Tests.{leb-true, le-leb}
 use Rattle.rules.specs.Limits as Limits
-use Rattle.rules.specs.Lists.{all?, sum, largest}
+use Rattle.rules.specs.Limits.{Range}
+use Rattle.rules.specs.Lists.{all?, sum}
 use Rattle.rules.specs.Table.{Node, Graph, Table}
-use Rattle.rules.specs.WellFormed.{within, rising, orderly, allFollowed, nodesFormed, graphFormed, wellFormed}
-use Rattle.rules.proofs.Tests.{and-l, and-r, and-i}
+use Rattle.rules.specs.WellFormed.{within, orderly, allFollowed, nodesFormed, graphFormed, wellFormed}
 
--- each predecessor is at least 1 and below the node's own number
-abbrev pub below : ℕ → ℕ → Bool
-below own p = leb 1 p && ltb p own
+-- two tests that both pass
+pub both : {a b : Bool} → a ≡ true → b ≡ true → a && b ≡ true
+both {a} {b} e f = rw (e, f)
 
-rising-below : (own last : ℕ) (ps : List ℕ) → T (rising own last ps) → T (all? (below own) ps)
-unfolding rising
-rising-below own last [] t = tt
-rising-below own last (p ∷ ps) t =
-    let A = ltb last p in
-    let B = ltb p own in
-    let q = and-l (A && B) (rising own p ps) t in
-    and-i (below own p) (all? (below own) ps)
-    (and-i (leb 1 p) B (le→leb 1 p (omega (arith, ltb→lt last p (and-l A B q)))) (and-r A B q))
-    (rising-below own p ps (and-r (A && B) (rising own p ps) t))
+pub first-of : (a b : Bool) → a && b ≡ true → a ≡ true
+first-of true b e = refl
+first-of false b e = e
 
-pub orderly-below : (own : ℕ) (ps : List ℕ) → T (orderly own ps) → T (all? (below own) ps)
-unfolding orderly
-orderly-below own [] t = tt
-orderly-below own (p ∷ ps) t = rising-below own 0 (p ∷ ps) t
+pub second-of : (a b : Bool) → a && b ≡ true → b ≡ true
+second-of true b e = e
+second-of false b e = absurd (let z : _≡_ {A = ℕ} 0 1 = cc in omega arith)
 
--- the nodes from number v on, of which x is the first
-pub record NodesFormed (v : ℕ) (x : Node) (xs : List Node) : Type 0 where
-  pub budget-some : 0 < x .budget
-  pub level-some : 0 < x .level
-  pub after-below : T (all? (below v) (x .after))
-  pub rest : T (nodesFormed (suc v) xs)
+-- a number within its limits, and back
+pub within-limits : (r : Range) (v : ℕ) → within r v ≡ true → (r .from ≤ v) × (v ≤ r .to)
+within-limits r v e =
+    (leb-true (r .from) v (first-of (leb (r .from) v) (leb v (r .to)) e), leb-true v (r .to) (second-of (leb (r .from) v) (leb v (r .to)) e))
 
-pub nodes-formed : (v : ℕ) (x : Node) (xs : List Node) → T (nodesFormed v (x ∷ xs)) → NodesFormed v x xs
+pub limits-within : (r : Range) (v : ℕ) → r .from ≤ v → v ≤ r .to → within r v ≡ true
+limits-within r v h l = both (le-leb (r .from) v h) (le-leb v (r .to) l)
+
+-- the first of some nodes, and the others
+pub record NodeFormed (v : ℕ) (x : Node) (xs : List Node) : Type 0 where
+  pub budget : within Limits.budget (x .budget) ≡ true
+  pub level : within Limits.level (x .level) ≡ true
+  pub order : orderly v (x .after) ≡ true
+  pub others : nodesFormed (suc v) xs ≡ true
+
+pub node-formed : (v : ℕ) (x : Node) (xs : List Node) → nodesFormed v (x ∷ xs) ≡ true → NodeFormed v x xs
 unfolding nodesFormed
-nodes-formed v x xs t =
-    let A = within Limits.budget (x .budget) in
-    let B = within Limits.level (x .level) in
-    let C = orderly v (x .after) in
-    let N = nodesFormed (suc v) xs in
-    let n = and-l (A && (B && C)) N t in
+node-formed v x xs e =
+    let b = within Limits.budget (x .budget) in
+    let l = within Limits.level (x .level) in
+    let o = orderly v (x .after) in
+    let here = first-of (b && (l && o)) (nodesFormed (suc v) xs) e in
     record {
-      budget-some = leb→le 1 (x .budget) (and-l (leb 1 (x .budget)) (leb (x .budget) (Limits.budget .to)) (and-l A (B && C) n));
-      level-some = leb→le 1 (x .level) (and-l (leb 1 (x .level)) (leb (x .level) (Limits.level .to)) (and-l B C (and-r A (B && C) n)));
-      after-below = orderly-below v (x .after) (and-r B C (and-r A (B && C) n));
-      rest = and-r (A && (B && C)) N t;
+      budget = first-of b (l && o) here;
+      level = first-of l o (second-of b (l && o) here);
+      order = second-of l o (second-of b (l && o) here);
+      others = second-of (b && (l && o)) (nodesFormed (suc v) xs) e;
     }
 
 pub record GraphFormed (G : Graph) : Type 0 where
-  pub period-some : 0 < G .period
-  pub nodes-some : 0 < length (G .nodes)
-  pub nodes : T (nodesFormed 1 (G .nodes))
+  pub period : within Limits.period (G .period) ≡ true
+  pub offset : within Limits.offset (G .offset) ≡ true
+  pub few : within Limits.nodes (length (G .nodes)) ≡ true
+  pub nodes : nodesFormed 1 (G .nodes) ≡ true
+  pub followed : allFollowed (G .nodes) ≡ true
 
-graph-formed : (G : Graph) → T (graphFormed G) → GraphFormed G
+pub graph-formed : (G : Graph) → graphFormed G ≡ true → GraphFormed G
 unfolding graphFormed
-graph-formed G t =
-    let A = within Limits.period (G .period) in
-    let B = within Limits.offset (G .offset) in
-    let C = within Limits.nodes (length (G .nodes)) in
-    let D = nodesFormed 1 (G .nodes) in
-    let E = allFollowed (G .nodes) in
-    let n = and-r B (C && (D && E)) (and-r A (B && (C && (D && E))) t) in
+graph-formed G e =
+    let p = within Limits.period (G .period) in
+    let o = within Limits.offset (G .offset) in
+    let n = within Limits.nodes (length (G .nodes)) in
+    let x = nodesFormed 1 (G .nodes) in
+    let f = allFollowed (G .nodes) in
+    let i = second-of p (o && (n && (x && f))) e in
+    let j = second-of o (n && (x && f)) i in
+    let k = second-of n (x && f) j in
     record {
-      period-some = leb→le 1 (G .period) (and-l (leb 1 (G .period)) (leb (G .period) (Limits.period .to)) (and-l A (B && (C && (D && E))) t));
-      nodes-some =
-          leb→le 1 (length (G .nodes))
-          (and-l (leb 1 (length (G .nodes))) (leb (length (G .nodes)) (Limits.nodes .to)) (and-l C (D && E) n));
-      nodes = and-l D E (and-r C (D && E) n);
+      period = first-of p (o && (n && (x && f))) e;
+      offset = first-of o (n && (x && f)) i;
+      few = first-of n (x && f) j;
+      nodes = first-of x f k;
+      followed = second-of x f k;
     }
 
-all-at : {A : Type 0} (p : A → Bool) {x : A} {l : List A} → List·Memᴰ x l → T (all? p l) → T (p x)
-all-at p {x} (List·Memᴰ·head {x = y} {xs = ys} e) t = rw e (and-l (p y) (all? p ys) t)
-all-at p {x} (List·Memᴰ·tail {x = y} {xs = ys} m) t = all-at p m (and-r (p y) (all? p ys) t)
+pub record TableFormed (T : Table) : Type 0 where
+  pub processors : within Limits.processors (T .processors) ≡ true
+  pub rounds : within Limits.rounds (T .rounds) ≡ true
+  pub few : within Limits.graphs (length (T .graphs)) ≡ true
+  pub graphs : all? graphFormed (T .graphs) ≡ true
+  pub nodes : within Limits.allNodes (sum (λ (G : Graph). length (G .nodes)) (T .graphs)) ≡ true
 
-pub largest-at : {A : Type 0} (f : A → ℕ) {x : A} {l : List A} → List·Memᴰ x l → f x ≤ largest f l
-largest-at f {x} (List·Memᴰ·head {x = y} {xs = ys} e) = rw e (omega arith)
-largest-at f {x} (List·Memᴰ·tail {x = y} {xs = ys} m) = omega (arith, largest-at f m)
-
-pub formed : (X : Table) → T (wellFormed X) → (G : Graph) → List·Memᴰ G (X .graphs) → GraphFormed G
+pub table-formed : (T : Table) → wellFormed T ≡ true → TableFormed T
 unfolding wellFormed
-formed X t G m =
-    let A = within Limits.processors (X .processors) in
-    let B = within Limits.rounds (X .rounds) in
-    let C = within Limits.graphs (length (X .graphs)) in
-    let D = all? graphFormed (X .graphs) in
-    let E = within Limits.allNodes (sum (λ (G : Graph). length (G .nodes)) (X .graphs)) in
-    graph-formed G (all-at graphFormed m (and-l D E (and-r C (D && E) (and-r B (C && (D && E)) (and-r A (B && (C && (D && E))) t)))))
+table-formed T e =
+    let p = within Limits.processors (T .processors) in
+    let r = within Limits.rounds (T .rounds) in
+    let g = within Limits.graphs (length (T .graphs)) in
+    let f = all? graphFormed (T .graphs) in
+    let n = within Limits.allNodes (sum (λ (G : Graph). length (G .nodes)) (T .graphs)) in
+    let i = second-of p (r && (g && (f && n))) e in
+    let j = second-of r (g && (f && n)) i in
+    let k = second-of g (f && n) j in
+    record {
+      processors = first-of p (r && (g && (f && n))) e;
+      rounds = first-of r (g && (f && n)) i;
+      few = first-of g (f && n) j;
+      graphs = first-of f n k;
+      nodes = second-of f n k;
+    }

@@ -28,6 +28,7 @@ pub mod Responses
 pub mod LeastTrueBox
 pub mod Hyperperiod
 pub mod Formed
+pub mod FormedGraphs
 pub mod TableBox
 pub mod LeastTrue
 pub mod Decimal

@@ -7,10 +7,9 @@ use Prim.Native.Nat.{ℕ, zero, suc, _+_, _*_, _-_, _≤_}
 use native.Mathlib.Omega.{arith}
 use lib.Dec.{T, leb}
 use lib.ListN.{length}
-use borrow.Author.Tests.{leb-true, le-leb}
+use borrow.Author.Tests.{leb-true}
 use Rattle.rules.specs.declared.Refusal.the-variants.{OutsideLimits, AgainstPredecessorRules, TooLong, LongHyperperiod, NotLoadable}
 use Rattle.rules.specs.Limits as Limits
-use Rattle.rules.specs.Limits.{Range}
 use Rattle.rules.specs.Lists.{all?, sum}
 use Rattle.rules.specs.Keys as Keys
 use Rattle.rules.specs.Keys.{keys, keyAt}
@@ -18,30 +17,11 @@ use Rattle.rules.specs.Table.{Node, Graph, Table, hyperperiod, loadable}
 use Rattle.rules.specs.WellFormed.{within, orderly, allFollowed, nodesFormed, graphFormed, wellFormed}
 use Rattle.rules.specs.Reading.{Place, Outcome, refused, done, _and-then_, numberLine, afterLine, node, nodesFrom, graphNodes, graph, graphsFrom, ended, table, readOf, Admission, admitted, admit, admitRead, admissionOf}
 use Rattle.rules.specs.Reading as Reading
+use Rattle.rules.proofs.Formed.{both, within-limits, limits-within, graph-formed}
 use Rattle.rules.proofs.Outcomes.{by-test, Holds, told, then-holds, number-line-holds, after-line-holds}
 
--- two tests that both pass
-pub both : {a b : Bool} → a ≡ true → b ≡ true → a && b ≡ true
-both {a} {b} e f = rw (e, f)
-
-pub first-of : (a b : Bool) → a && b ≡ true → a ≡ true
-first-of true b e = refl
-first-of false b e = e
-
-pub second-of : (a b : Bool) → a && b ≡ true → b ≡ true
-second-of true b e = e
-second-of false b e = absurd (let z : _≡_ {A = ℕ} 0 1 = cc in omega arith)
-
--- a number within its limits, and back
-pub within-limits : (r : Range) (v : ℕ) → within r v ≡ true → (r .from ≤ v) × (v ≤ r .to)
-within-limits r v e =
-    (leb-true (r .from) v (first-of (leb (r .from) v) (leb v (r .to)) e), leb-true v (r .to) (second-of (leb (r .from) v) (leb v (r .to)) e))
-
-pub limits-within : (r : Range) (v : ℕ) → r .from ≤ v → v ≤ r .to → within r v ≡ true
-limits-within r v h l = both (le-leb (r .from) v h) (le-leb v (r .to) l)
-
 -- a node has three lines
-node-holds : (own : ℕ) (p : Place)
+pub node-holds : (own : ℕ) (p : Place)
     → Holds (λ x q. ((within Limits.budget (x .budget) && (within Limits.level (x .level) && orderly own (x .after))) ≡ true) × (q .line ≡ p .line + 3)) (node own p)
 unfolding node keys
 node-holds own p =
@@ -95,15 +75,6 @@ graph-holds total p =
 abbrev pub nodesIn : List Graph → ℕ
 nodesIn Gs = sum (λ (G : Graph). length (G .nodes)) Gs
 
--- a graph that is formed has a node
-formed-nodes : (G : Graph) → graphFormed G ≡ true → 1 ≤ length (G .nodes)
-unfolding graphFormed
-formed-nodes G e =
-    within-limits Limits.nodes (length (G .nodes))
-    (first-of (within Limits.nodes (length (G .nodes))) (nodesFormed 1 (G .nodes) && allFollowed (G .nodes))
-    (second-of (within Limits.offset (G .offset)) (within Limits.nodes (length (G .nodes)) && (nodesFormed 1 (G .nodes) && allFollowed (G .nodes)))
-    (second-of (within Limits.period (G .period)) _ e))) .0
-
 graphs-holds : (total n : ℕ) (p : Place) → total ≤ Limits.allNodes .to
     → Holds (λ Gs q. (all? graphFormed Gs ≡ true) × (length Gs ≡ n) × (total + nodesIn Gs ≤ Limits.allNodes .to) × (n ≤ nodesIn Gs)) (graphsFrom total n p)
 unfolding graphsFrom
@@ -111,7 +82,7 @@ graphs-holds total zero p h = (refl, refl, omega arith, omega arith)
 graphs-holds total (suc n) p h =
     then-holds _ _ (graph total p) _ (graph-holds total p) (λ G q i.
     then-holds _ _ (graphsFrom (total + length (G .nodes)) n q) _ (graphs-holds (total + length (G .nodes)) n q (i .1)) (λ Gs r j.
-    let k = formed-nodes G (i .0) in
+    let k = within-limits Limits.nodes (length (G .nodes)) (graph-formed G (i .0) .few) .0 in
     (both (i .0) (j .0), ap suc (j .1), omega (arith, j .2), omega (arith, j .3))))
 
 table-holds : (p : Place) → Holds (λ T q. wellFormed T ≡ true) (table p)
@@ -135,12 +106,15 @@ table-holds p =
 passes : {b : Bool} → b ≡ true → T b
 passes e = subst T (sym e) tt
 
-pub read-well-formed : (s : List ℕ) (U : Table) (p : Place) → readOf s ≡ done U p → T (wellFormed U)
+pub read-formed : (s : List ℕ) (U : Table) (p : Place) → readOf s ≡ done U p → wellFormed U ≡ true
 unfolding readOf
-read-well-formed s U p e =
+read-formed s U p e =
     by-test (leb (length s) (Limits.tableBytes .to))
-    (λ f. passes (told (λ W q. wellFormed W ≡ true) (rw f at e) (table-holds (record { line = 1; bytes = s }))))
+    (λ f. told (λ W q. wellFormed W ≡ true) (rw f at e) (table-holds (record { line = 1; bytes = s })))
     (λ f. absurd (let g = rw f at e in let z : _≡_ {A = ℕ} 0 1 = cc in omega arith))
+
+pub read-well-formed : (s : List ℕ) (U : Table) (p : Place) → readOf s ≡ done U p → T (wellFormed U)
+read-well-formed s U p e = passes (read-formed s U p e)
 
 -- an admission that is no refusal
 admitted-holds : (P : Table → Type 0) (x : Outcome Table) (U : Table) → admitRead x ≡ admitted U

@@ -15,7 +15,7 @@ use Rattle.rules.specs.Servers.{Server, noServer, ofNodes, ofGraphs, sin
 use Rattle.rules.specs.WellFormed.{nodesFormed, wellFormed}
 use Rattle.rules.proofs.Tests.{and-l, and-r, and-i, by-lt, either-way, eq→eqb, all-under}
 use Rattle.rules.proofs.Hyperperiod.{hyperperiod-some, hyperperiod-least}
-use Rattle.rules.proofs.Formed.{below, nodes-formed, GraphFormed, largest-at, formed}
+use Rattle.rules.proofs.FormedGraphs.{below, nodes-formed, GraphFormed, largest-at, formed}
 use Rattle.rules.proofs.Boundaries.{Sound}
 
 -- the server at p is in the list S and has the period and offset of s

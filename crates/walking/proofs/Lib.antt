@@ -1,3 +1,5 @@
 pub mod Boundaries
 pub mod Ends
 pub mod Walked
+pub mod Steps
+pub mod Ticks

@@ -1,0 +1,36 @@
+-- Choosing: the keys of one server, and of one server more; a key put into a rising list.
+use mathlib.Core.Path.{_≡_, sym}
+use mathlib.Core.List.{List, [], _∷_, _++_, append-assoc, append-nil}
+use Prim.Native.Nat.{ℕ, suc, _+_, _≤_, _<_}
+use native.Mathlib.Numerals.{add-one}
+use native.Mathlib.Omega.{arith}
+use lib.ListN.{length, getD, set, take}
+use lib.Seq.{take-suc-set}
+use borrow.Author.Tests.{lt-ltb, le-ltb}
+use Rattle.window.specs.Choosing.{readyOf, keyOfSlot, keysOf, laidOut, Carried, carriedTo}
+
+-- keys laid out
+pub lay-start : (ks : List ℕ) (n : ℕ) → take (n + 0) ks ≡ take n ks ++ []
+lay-start ks n = let z : n + 0 ≡ n = omega arith in rw z (sym (append-nil (take n ks)))
+
+pub lay-step : (ks before : List ℕ) (first step n d : ℕ) {k : ℕ} → n + d < length ks → k ≡ keyOfSlot first step d → take (n + d) ks ≡ before ++ keysOf first step d
+    → take (n + (d + 1)) (set ks (n + d) k) ≡ before ++ keysOf first step (d + 1)
+unfolding keysOf
+lay-step ks before first step n d {k} h e g =
+    let q : n + (d + 1) ≡ suc (n + d) = omega arith in
+    rw (q, take-suc-set ks (n + d) k h, g, add-one d, e) (append-assoc before (keysOf first step d) (keyOfSlot first step d ∷ []))
+
+pub lay-more : (first count level step : List ℕ) (i : ℕ) {before : List ℕ} {ready : ℕ} → before ≡ laidOut first count level step i → ready ≡ readyOf (getD count i 0) (getD level i 0)
+    → before ++ keysOf (getD first i 0) (getD step i 0) ready ≡ laidOut first count level step (i + 1)
+unfolding laidOut
+lay-more first count level step i e r = rw (add-one i, e, r)
+
+-- a key put in place
+module _ (best : List ℕ) (key i : ℕ) {u : List ℕ} {k : ℕ} (e : _≡_ {A = Carried} (record { best = u; carry = k }) (carriedTo best key i)) where
+  pub carry-yes : k < getD u i 0 → _≡_ {A = Carried} (record { best = set u i k; carry = getD u i 0 }) (carriedTo best key (i + 1))
+  unfolding carriedTo
+  carry-yes h = rw (add-one i, ← e, lt-ltb k (getD u i 0) h)
+
+  pub carry-no : getD u i 0 ≤ k → _≡_ {A = Carried} (record { best = u; carry = k }) (carriedTo best key (i + 1))
+  unfolding carriedTo
+  carry-no h = rw (add-one i, ← e, le-ltb k (getD u i 0) h)

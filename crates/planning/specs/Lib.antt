@@ -1,0 +1,4 @@
+pub mod Narrowing
+pub mod Places
+pub mod Plans
+pub mod Offsets

@@ -1,0 +1,165 @@
+-- A graph, graphs one after another, and the end of the table.
+use mathlib.Core.Path.{_≡_, refl, sym, _∙_, ap}
+use mathlib.Core.Bool.{Bool, true, false, cond}
+use mathlib.Core.List.{List, [], _∷_}
+use Prim.Native.Nat.{ℕ, zero, suc, _+_, _-_, _<_, _≤_}
+use native.Mathlib.Omega.{arith}
+use lib.Dec.{leb, eqb}
+use lib.ListN.{length, drop}
+use borrow.Author.Tests.{le-leb, lt-leb}
+use Rattle.rules.specs.declared.Refusal.{Refusal}
+use Rattle.rules.specs.declared.Refusal.the-variants.{Misspelled, OutsideLimits, AgainstPredecessorRules}
+use Rattle.rules.specs.Limits as Limits
+use Rattle.rules.specs.Keys as Keys
+use Rattle.rules.specs.Keys.{keys}
+use Rattle.rules.specs.Table.{Node, Graph, Table}
+use Rattle.rules.specs.WellFormed.{within, allFollowed, nodesFormed}
+use Rattle.rules.specs.Reading.{Place, Outcome, refused, done, _and-then_, numberLine, nodesFrom, graphNodes, graph, graphsFrom, ended, table}
+use Rattle.rules.proofs.Outcomes.{Holds, number-line-holds}
+use Rattle.numbers.specs.Masks.{unsetBelow}
+use Rattle.numbers.proofs.Cases.{by-test}
+use Rattle.table.specs.declared.Table.{Table as Memory}
+use Rattle.table.specs.Fresh.{emptyTable}
+use Rattle.reading.specs.declared.tables.Three.{Three}
+use Rattle.reading.specs.declared.tables.Place.{Place as Spot}
+use Rattle.reading.specs.Memory.{withGraph, withGraphs, memoryOf}
+use Rattle.reading.specs.Outcomes.{mapOutcome, placeOf, threeLines, Taken, taken, addedGraph, endedGraph, tableReadOf}
+use Rattle.reading.proofs.Scanners.{next, past}
+use Rattle.reading.proofs.Successors.{successors}
+
+module _ {A B : Type 0} where
+  -- two ways to go on that agree where P holds
+  on-alike : (P : A → Place → Type 0) (x : Outcome A) (f g : A → Place → Outcome B) → Holds P x
+      → ((a : A) (p : Place) → P a p → f a p ≡ g a p) → x and-then f ≡ x and-then g
+  on-alike P (done a p) f g h e = e a p h
+  on-alike P (refused r) f g h e = refl
+
+-- three numbers, and what follows them
+three-then : {B : Type 0} (k : ℕ) (p : Place) (f : Three → Place → Outcome B)
+    → (numberLine k p and-then λ a p. numberLine (k + 1) p and-then λ b p. numberLine (k + 2) p and-then λ c p. f (record { first = a; second = b; third = c }) p)
+    ≡ ((numberLine k p and-then λ a p. numberLine (k + 1) p and-then λ b p. numberLine (k + 2) p and-then λ c p. done (record { first = a; second = b; third = c }) p) and-then f)
+three-then {B} k p f = one (numberLine k p)
+  where
+    three : (a b : ℕ) (x : Outcome ℕ)
+        → (x and-then λ c p. f (record { first = a; second = b; third = c }) p) ≡ ((x and-then λ c p. done (record { first = a; second = b; third = c }) p) and-then f)
+    three a b (done c p) = refl
+    three a b (refused r) = refl
+
+    two : (a : ℕ) (x : Outcome ℕ)
+        → (x and-then λ b p. numberLine (k + 2) p and-then λ c p. f (record { first = a; second = b; third = c }) p)
+        ≡ ((x and-then λ b p. numberLine (k + 2) p and-then λ c p. done (record { first = a; second = b; third = c }) p) and-then f)
+    two a (done b p) = three a b (numberLine (k + 2) p)
+    two a (refused r) = refl
+
+    one : (x : Outcome ℕ)
+        → (x and-then λ a p. numberLine (k + 1) p and-then λ b p. numberLine (k + 2) p and-then λ c p. f (record { first = a; second = b; third = c }) p)
+        ≡ ((x and-then λ a p. numberLine (k + 1) p and-then λ b p. numberLine (k + 2) p and-then λ c p. done (record { first = a; second = b; third = c }) p) and-then f)
+    one (done a p) = two a (numberLine (k + 1) p)
+    one (refused r) = refl
+
+-- a graph's head, and the line of its number of nodes
+pub graph-three : (total : ℕ) (p : Place)
+    → graph total p ≡ threeLines Keys.period 0 p and-then (λ t q. graphNodes total (t .first) (t .second) (t .third) (q .line - 1) q)
+unfolding graph threeLines
+graph-three total p =
+    on-alike (λ a q. Unit {0}) (numberLine Keys.period p) _ _ (any (numberLine Keys.period p)) (λ a q u.
+    on-alike (λ b r. Unit {0}) (numberLine Keys.offset q) _ _ (any (numberLine Keys.offset q)) (λ b r v.
+    on-alike (λ n t. (within _ n ≡ true) × (t .line ≡ suc (r .line))) (numberLine Keys.nodes r) _ _ (number-line-holds Keys.nodes r) (λ n t h.
+    let e : r .line ≡ t .line - 1 = omega (arith, h .1) in ap (λ (l : ℕ). graphNodes total a b n l t) e)))
+    ∙ three-then Keys.period p (λ t q. graphNodes total (t .first) (t .second) (t .third) (q .line - 1) q)
+  where
+    any : (x : Outcome ℕ) → Holds (λ a q. Unit {0}) x
+    any (done a q) = tt
+    any (refused r) = tt
+
+-- the table's
+pub table-three : (p : Place)
+    → table p
+    ≡ threeLines Keys.processors 0 p and-then (λ t q. graphsFrom 0 (t .third) q and-then λ Gs r. ended (record { processors = t .first; rounds = t .second; graphs = Gs }) r (r .bytes))
+unfolding table threeLines
+table-three p =
+    three-then Keys.processors p (λ t q. graphsFrom 0 (t .third) q and-then λ Gs r. ended (record { processors = t .first; rounds = t .second; graphs = Gs }) r (r .bytes))
+
+-- a graph's nodes
+module _ (total period offset n l : ℕ) (p : Place) where
+  pub nodes-over : Limits.allNodes .to < total + n → graphNodes total period offset n l p ≡ refused (OutsideLimits l)
+  unfolding graphNodes
+  nodes-over h = rw (lt-leb (total + n) (Limits.allNodes .to) h)
+
+  module _ (h : total + n ≤ Limits.allNodes .to) where
+    pub nodes-refused : (r : Refusal) → nodesFrom 1 n p ≡ refused r → graphNodes total period offset n l p ≡ refused r
+    unfolding graphNodes
+    nodes-refused r e = rw (le-leb (total + n) (Limits.allNodes .to) h, e)
+
+    pub nodes-done : (xs : List Node) (q : Place) → nodesFrom 1 n p ≡ done xs q
+        → graphNodes total period offset n l p
+        ≡ cond (allFollowed xs) (done (record { period = period; offset = offset; nodes = xs }) q) (refused (AgainstPredecessorRules (q .line - 1)))
+    unfolding graphNodes
+    nodes-done xs q e = rw (le-leb (total + n) (Limits.allNodes .to) h, e)
+
+-- what code makes of a graph's nodes once they are read
+module _ (t : Memory) (head : Three) (xs : List Node) (taking : Taken) (many : length xs ≡ head .third) (e : taking ≡ taken (t .node) (t .nodes) 0 xs) where
+  added-graph : addedGraph t head (taking .nodes) ≡ withGraph t (record { period = head .first; offset = head .second; nodes = xs })
+  added-graph = rw (← many, e)
+
+  none-left : head .third ≤ Limits.nodes .to → nodesFormed 1 xs ≡ true → eqb (unsetBelow (head .third - 1) (taking .named)) 0 ≡ allFollowed xs
+  none-left few formed = rw (← many, e) (successors xs (omega arith) formed)
+
+  pub ended-graph : head .third ≤ Limits.nodes .to → nodesFormed 1 xs ≡ true → (s : List ℕ) (p : Spot)
+      → tableReadOf s (endedGraph t head (taking .nodes) (taking .named) p)
+      ≡ mapOutcome (withGraph t)
+      (cond (allFollowed xs) (done (record { period = head .first; offset = head .second; nodes = xs }) (placeOf s p)) (refused (AgainstPredecessorRules (p .line - 1))))
+  ended-graph few formed s p =
+      by-test (allFollowed xs)
+      (λ f. rw (none-left few formed, f) (ap (λ (m : Memory). done m (placeOf s p)) added-graph))
+      (λ f. rw (none-left few formed, f))
+
+-- graphs from the one after g on, of n
+module _ (t : Memory) (n g : ℕ) (p : Place) (h : g < n) where
+  graphs-on : (left : ℕ) (x : Outcome Graph)
+      → mapOutcome (withGraphs t) (x and-then λ a q. graphsFrom (t .nodes + length (a .nodes)) left q and-then λ Gs r. done (a ∷ Gs) r)
+      ≡ x and-then (λ a q. mapOutcome (withGraphs (withGraph t a)) (graphsFrom (t .nodes + length (a .nodes)) left q))
+  unfolding withGraphs
+  graphs-on left (refused r) = refl
+  graphs-on left (done a q) = more (graphsFrom (t .nodes + length (a .nodes)) left q)
+    where
+      more : (y : Outcome (List Graph)) → mapOutcome (withGraphs t) (y and-then λ Gs r. done (a ∷ Gs) r) ≡ mapOutcome (withGraphs (withGraph t a)) y
+      more (refused r) = refl
+      more (done Gs r) = refl
+
+  graphs-step : mapOutcome (withGraphs t) (graphsFrom (t .nodes) (n - g) p)
+      ≡ graph (t .nodes) p and-then (λ a q. mapOutcome (withGraphs (withGraph t a)) (graphsFrom (t .nodes + length (a .nodes)) (n - (g + 1)) q))
+  unfolding graphsFrom
+  graphs-step =
+      let e : n - g ≡ suc (n - (g + 1)) = omega arith in
+      rw e (graphs-on (n - (g + 1)) (graph (t .nodes) p))
+
+  pub graphs-one : (a : Graph) (q : Place) → graph (t .nodes) p ≡ done a q
+      → mapOutcome (withGraphs t) (graphsFrom (t .nodes) (n - g) p) ≡ mapOutcome (withGraphs (withGraph t a)) (graphsFrom (withGraph t a .nodes) (n - (g + 1)) q)
+  graphs-one a q e = graphs-step ∙ rw e
+
+  pub graphs-refused : (r : Refusal) → graph (t .nodes) p ≡ refused r → mapOutcome (withGraphs t) (graphsFrom (t .nodes) (n - g) p) ≡ refused r
+  graphs-refused r e = graphs-step ∙ rw e
+
+pub graphs-none : (t : Memory) (n g : ℕ) (p : Place) → n ≤ g → mapOutcome (withGraphs t) (graphsFrom (t .nodes) (n - g) p) ≡ done t p
+unfolding graphsFrom withGraphs
+graphs-none t n g p h = let e : n - g ≡ 0 = omega arith in rw e
+
+-- the end of the table, in memory and not
+pub ended-map : (a b : ℕ) (x : Outcome (List Graph))
+    → mapOutcome memoryOf (x and-then λ Gs p. ended (record { processors = a; rounds = b; graphs = Gs }) p (p .bytes))
+    ≡ mapOutcome (withGraphs (emptyTable a b)) x and-then (λ m p. ended m p (p .bytes))
+ended-map a b (refused r) = refl
+ended-map a b (done Gs p) = last (p .bytes)
+  where
+    last : (rest : List ℕ) → mapOutcome memoryOf (ended (record { processors = a; rounds = b; graphs = Gs }) p rest) ≡ ended (withGraphs (emptyTable a b) Gs) p rest
+    last [] = refl
+    last (c ∷ rest) = refl
+
+-- the code's test for more bytes
+module _ (m : Memory) (l p : ℕ) (s : List ℕ) where
+  pub ended-more : p < length s → ended m (record { line = l; bytes = drop p s }) (drop p s) ≡ refused (Misspelled l)
+  ended-more h = ap (λ (b : List ℕ). ended m (record { line = l; bytes = drop p s }) b) (next s p h)
+
+  pub ended-none : length s ≤ p → ended m (record { line = l; bytes = drop p s }) (drop p s) ≡ done m (record { line = l; bytes = drop p s })
+  ended-none h = ap (λ (b : List ℕ). ended m (record { line = l; bytes = drop p s }) b) (past s p h)

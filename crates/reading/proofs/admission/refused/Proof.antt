@@ -1,0 +1,16 @@
+-- `refused` meets its contract.
+use Prim.Native.Nat.{_-_}
+use borrow.Author.Needs.{needs}
+use Rattle.rules.specs.Limits as Limits
+use Rattle.rules.specs.Table as Rules
+use Rattle.reading.proofs.admission.refused.Statement.{statement}
+use Rattle.reading.proofs.admission.refused.Tie as tie
+
+empty-requires : tie.Need-empty-requires
+empty-requires c κs = search needs
+
+returns : tie.Need-returns
+returns c = rw (c .empty .ensures)
+
+pub refused-spec : {M : Type 1} → statement M
+refused-spec = tie.close (tie.spec empty-requires returns)

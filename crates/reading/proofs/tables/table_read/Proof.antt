@@ -1,0 +1,104 @@
+-- `table_read` meets its contract.
+use mathlib.Core.Path.{refl, sym, _∙_, ap}
+use Prim.Native.Nat.{_-_}
+use native.Mathlib.Omega.{arith}
+use lib.ListN.{length}
+use denote.Ref.{now}
+use borrow.Author.Needs.{needs}
+use borrow.Author.Tests.{le-leb, lt-leb}
+use Rattle.rules.proofs.Formed.{within-limits}
+use Rattle.rules.proofs.Outcomes.{told}
+use Rattle.rules.specs.Keys as Keys
+use Rattle.rules.specs.Keys.{keys}
+use Rattle.rules.specs.Limits as Limits
+use Rattle.rules.specs.Reading.{Place, Outcome, _and-then_, graphsFrom, ended, readOf}
+use Rattle.table.specs.declared.Table.{Table as Memory}
+use Rattle.reading.specs.Memory.{withGraphs}
+use Rattle.reading.specs.Outcomes.{mapOutcome, placeOf, threeReadOf}
+use Rattle.reading.proofs.Graphs.{table-three, ended-map}
+use Rattle.reading.proofs.Runs.{three-holds}
+use Rattle.reading.proofs.tables.table_read.Statement.{statement}
+use Rattle.reading.proofs.tables.table_read.Tie as tie
+
+cast-if1 : tie.Need-cast-if1
+cast-if1 c = search needs
+
+empty-requires : tie.Need-empty-requires
+empty-requires c κs = search needs
+
+returns : tie.Need-returns
+unfolding readOf
+returns c =
+    let s = now (c .before .before .before .args .s) in
+    let P : Place = record { line = 1; bytes = s } in
+    rw (lt-leb (length s) (Limits.tableBytes .to) (omega arith))
+
+three-at-requires : tie.Need-three-at-requires
+three-at-requires c κs = search needs
+
+enum-known-f : tie.Need-enum-known-f
+enum-known-f c = search needs
+
+empty-requires-2 : tie.Need-empty-requires-2
+empty-requires-2 c κs = search needs
+
+enum-known-head : tie.Need-enum-known-head
+enum-known-head c = search needs
+
+empty-requires-3 : tie.Need-empty-requires-3
+empty-requires-3 c κs = search needs
+
+graphs-at-requires : tie.Need-graphs-at-requires
+unfolding keys
+graphs-at-requires c κs =
+    let s = now (c .before .before .before .before .before .before .before .args .s) in
+    let P : Place = record { line = 1; bytes = s } in
+    let known = c .before .before .head .given in
+    let w = told _ (sym (sym (ap (threeReadOf s) (known .1)) ∙ c .before .before .before .before .three-at .ensures)) (three-holds Keys.processors 0 P refl) in
+    let l = within-limits Limits.graphs (known .0 .0 .third) (w .0) in
+    let g = ap (λ (m : Memory). m .graphs) (c .empty3 .ensures) in
+    let n = ap (λ (m : Memory). m .nodes) (c .empty3 .ensures) in
+    (omega (arith, l .1), omega arith, omega (arith, l .1, w .1))
+
+ended-at-requires : tie.Need-ended-at-requires
+ended-at-requires c κs = search needs
+
+returns-2 : tie.Need-returns-2
+unfolding readOf
+returns-2 c =
+    let s = now (c .before .before .before .before .before .before .before .args .s) in
+    let P : Place = record { line = 1; bytes = s } in
+    let e = sym (ap (threeReadOf s) (c .before .before .f .given .1)) ∙ c .before .before .before .before .three-at .ensures in
+    rw (le-leb (length s) (Limits.tableBytes .to) (omega arith), table-three P, ← e)
+
+returns-3 : tie.Need-returns-3
+unfolding readOf
+returns-3 c =
+    let s = now (c .before .before .before .before .before .before .before .before .before .args .s) in
+    let P : Place = record { line = 1; bytes = s } in
+    let known = c .before .before .before .before .head .given in
+    let h = known .0 .0 in
+    let Q = placeOf s (known .0 .1 .0) in
+    let e = sym (ap (threeReadOf s) (known .1)) ∙ c .before .before .before .before .before .before .three-at .ensures in
+    rw (le-leb (length s) (Limits.tableBytes .to) (omega arith), table-three P, ← e)
+    (c .ended-at .ensures
+    ∙ ap (λ (x : Outcome Memory). x and-then (λ m p. ended m p (p .bytes)))
+    (c .before .graphs-at .ensures ∙ ap (λ (m : Memory). mapOutcome (withGraphs m) (graphsFrom (m .nodes) (h .third) Q)) (c .before .before .empty3 .ensures))
+    ∙ sym (ended-map (h .first) (h .second) (graphsFrom 0 (h .third) Q)))
+
+pub table-read-spec : {M : Type 1} → statement M
+table-read-spec =
+    tie.close
+    (tie.spec
+    cast-if1
+    empty-requires
+    returns
+    three-at-requires
+    enum-known-f
+    empty-requires-2
+    enum-known-head
+    empty-requires-3
+    graphs-at-requires
+    ended-at-requires
+    returns-2
+    returns-3)

@@ -1,0 +1,102 @@
+-- What the code's answers on runs of lines say in the rules' terms.
+use mathlib.Core.Bool.{cond}
+use mathlib.Core.List.{List, [], _∷_}
+use Prim.Native.Nat.{ℕ, _+_, _-_}
+use lib.Bits.{bitOr}
+use lib.Dec.{eqb}
+use lib.ListN.{drop, set}
+use Rattle.rules.specs.declared.Refusal.the-variants.{AgainstPredecessorRules}
+use Rattle.rules.specs.Keys as Keys
+use Rattle.rules.specs.Table as Rules
+use Rattle.rules.specs.Reading.{Place, Outcome, refused, done, _and-then_, numberLine, afterLine}
+use Rattle.numbers.specs.Masks.{unsetBelow}
+use Rattle.table.specs.declared.Table.{Table}
+use Rattle.table.specs.declared.Node.{Node}
+use Rattle.reading.specs.declared.tables.Place.{Place as Spot}
+use Rattle.reading.specs.declared.tables.LineRead.{LineRead}
+use Rattle.reading.specs.declared.tables.LineRead.the-variants as LineRead
+use Rattle.reading.specs.declared.tables.Three.{Three}
+use Rattle.reading.specs.declared.tables.ThreeRead.{ThreeRead}
+use Rattle.reading.specs.declared.tables.ThreeRead.the-variants as ThreeRead
+use Rattle.reading.specs.declared.tables.NodeRead.{NodeRead}
+use Rattle.reading.specs.declared.tables.NodeRead.the-variants as NodeRead
+use Rattle.reading.specs.declared.tables.End.{End}
+use Rattle.reading.specs.declared.tables.End.the-variants as End
+use Rattle.reading.specs.declared.tables.NodesRead.{NodesRead}
+use Rattle.reading.specs.declared.tables.TableRead.{TableRead}
+use Rattle.reading.specs.Masks.{maskOf}
+use Rattle.reading.specs.Memory.{codedNode, filled}
+
+module _ {A B : Type 0} where
+  abbrev pub mapOutcome : (A → B) → Outcome A → Outcome B
+  mapOutcome f (refused r) = refused r
+  mapOutcome f (done a p) = done (f a) p
+
+abbrev pub placeOf : List ℕ → Spot → Place
+placeOf s p = record { line = p .line; bytes = drop (p .at) s }
+
+-- the line of key k, whose value code holds as a number or a mask
+abbrev pub codedLine : ℕ → ℕ → Place → Outcome ℕ
+codedLine k own p = cond (eqb k Keys.after) (mapOutcome maskOf (afterLine own p)) (numberLine k p)
+
+abbrev pub lineReadOf : List ℕ → LineRead → Outcome ℕ
+lineReadOf s (LineRead.Value v p) = done v (placeOf s p)
+lineReadOf s (LineRead.Refused r) = refused r
+
+-- three lines, of key k and the two behind it
+unfoldable pub threeLines : ℕ → ℕ → Place → Outcome Three
+threeLines k own p =
+    codedLine k own p and-then λ a p.
+    codedLine (k + 1) own p and-then λ b p.
+    codedLine (k + 2) own p and-then λ c p.
+    done (record { first = a; second = b; third = c }) p
+
+abbrev pub threeReadOf : List ℕ → ThreeRead → Outcome Three
+threeReadOf s (ThreeRead.Values t p) = done t (placeOf s p)
+threeReadOf s (ThreeRead.Refused r) = refused r
+
+abbrev pub nodeReadOf : List ℕ → NodeRead → Outcome Node
+nodeReadOf s (NodeRead.One x p) = done x (placeOf s p)
+nodeReadOf s (NodeRead.Refused r) = refused r
+
+module _ {A : Type 0} where
+  abbrev pub endOf : List ℕ → A → End → Outcome A
+  endOf s a (End.At p) = done a (placeOf s p)
+  endOf s a (End.Refused r) = refused r
+
+-- the predecessors that some node's list has, put into the mask m
+unfoldable pub namedFrom : ℕ → List Rules.Node → ℕ
+namedFrom m [] = m
+namedFrom m (x ∷ xs) = namedFrom (bitOr m (maskOf (x .after))) xs
+
+-- a graph's nodes in memory, and their predecessors together
+pub record Taken : Type 0 where
+  pub nodes : List Node
+  pub named : ℕ
+
+abbrev pub taken : List Node → ℕ → ℕ → List Rules.Node → Taken
+taken nodes first m xs = record { nodes = filled nodes first xs; named = namedFrom m xs }
+
+abbrev pub nodesReadOf : List ℕ → NodesRead → Outcome Taken
+nodesReadOf s r = endOf s (record { nodes = r .nodes; named = r .named }) (r .end)
+
+abbrev pub tableReadOf : List ℕ → TableRead → Outcome Table
+tableReadOf s r = endOf s (r .table) (r .end)
+
+-- a graph whose head is read and whose nodes stand in the list, added to the table; refused where a node has no successor
+abbrev pub addedGraph : Table → Three → List Node → Table
+addedGraph t head list =
+    record {
+      processors = t .processors;
+      rounds = t .rounds;
+      graphs = t .graphs + 1;
+      nodes = t .nodes + head .third;
+      graph = set (t .graph) (t .graphs) (record { period = head .first; offset = head .second; first = t .nodes; nodes = head .third });
+      node = list;
+    }
+
+abbrev pub endedGraph : Table → Three → List Node → ℕ → Spot → TableRead
+endedGraph t head list named p =
+    cond (eqb (unsetBelow (head .third - 1) named) 0)
+    (record { table = addedGraph t head list; end = End.At p })
+    (record { table = t; end = End.Refused (AgainstPredecessorRules (p .line - 1)) })

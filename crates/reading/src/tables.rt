@@ -1,0 +1,344 @@
+// The lines one after another: three for a table's head, for a graph's and for each node; then the table, or refusal 1 to 4.
+use crate::lines::AFTER;
+use crate::lines::BUDGET;
+use crate::lines::Line;
+use crate::lines::PERIOD;
+use crate::lines::PROCESSORS;
+use crate::reader::line_at;
+use rules::Refusal;
+use table::Graph;
+use table::Node;
+use table::Table;
+ghost use mathlib.Core.Path.{_≡_};
+ghost use Prim.Native.Nat.{_+_, _-_, _*_, _^_, _<_, _≤_};
+ghost use Rattle.rules.specs.Limits as Limits;
+ghost use Rattle.rules.specs.Reading.{_and-then_, node, nodesFrom, graphNodes, graph, graphsFrom, ended, readOf};
+ghost use Rattle.reading.specs.Memory.{codedNode, withGraph, withGraphs, memoryOf};
+ghost use Rattle.reading.specs.Outcomes.{mapOutcome, placeOf, codedLine, lineReadOf, threeLines, threeReadOf, nodeReadOf, taken, nodesReadOf, addedGraph, endedGraph, tableReadOf};
+
+// Where reading stands: the number of the next line, and its position.
+pub struct Place {
+    pub line: u32,
+    pub at: usize,
+}
+
+pub enum LineRead {
+    Value(u32, Place),
+    Refused(Refusal),
+}
+
+// The values of three lines.
+pub struct Three {
+    pub first: u32,
+    pub second: u32,
+    pub third: u32,
+}
+
+pub enum ThreeRead {
+    Values(Three, Place),
+    Refused(Refusal),
+}
+
+pub enum NodeRead {
+    One(Node, Place),
+    Refused(Refusal),
+}
+
+// How a run of lines ended: at a place, or with a refusal. What was read stands beside it.
+pub enum End {
+    At(Place),
+    Refused(Refusal),
+}
+
+// `named` are the predecessors that some node's list has.
+pub struct NodesRead {
+    pub nodes: [Node; Table::SERVERS],
+    pub named: u32,
+    pub end: End,
+}
+
+pub struct TableRead {
+    pub table: Table,
+    pub end: End,
+}
+
+// The line of key k, with its number.
+pub fn line_read(s: &[u8], place: Place, k: usize, own: u32) -> LineRead
+    requires { ⌜ place .line + 1 < 2 ^ 32 ⌝ }
+    ensures { λ r. ⌜ lineReadOf (now (s .entry)) r ≡ codedLine k own (placeOf (now (s .entry)) place) ⌝ }
+{
+    let line = place.line;
+    let at = place.at;
+    match line_at(s, at, k, own) {
+        Line::Value(v, p) => LineRead::Value(
+            v,
+            Place {
+                line: line + 1,
+                at: p,
+            },
+        ),
+        Line::Misspelled(_) => LineRead::Refused(Refusal::Misspelled { line }),
+        Line::Unfair => {
+            if k == AFTER {
+                LineRead::Refused(Refusal::AgainstPredecessorRules { line })
+            } else {
+                LineRead::Refused(Refusal::OutsideLimits { line })
+            }
+        }
+    }
+}
+
+// The lines of key k and of the two keys behind it.
+pub fn three_at(s: &[u8], place: Place, k: usize, own: u32) -> ThreeRead
+    requires { ⌜ (place .line + 3 < 2 ^ 32) × (k + 2 < 2 ^ 64) ⌝ }
+    ensures { λ r. ⌜ threeReadOf (now (s .entry)) r ≡ threeLines k own (placeOf (now (s .entry)) place) ⌝ }
+{
+    match line_read(s, place, k, own) {
+        LineRead::Refused(f) => ThreeRead::Refused(f),
+        LineRead::Value(first, p) => match line_read(s, p, k + 1, own) {
+            LineRead::Refused(f) => ThreeRead::Refused(f),
+            LineRead::Value(second, q) => match line_read(s, q, k + 2, own) {
+                LineRead::Refused(f) => ThreeRead::Refused(f),
+                LineRead::Value(third, r) => ThreeRead::Values(
+                    Three {
+                        first,
+                        second,
+                        third,
+                    },
+                    r,
+                ),
+            },
+        },
+    }
+}
+
+pub fn node_at(s: &[u8], place: Place, own: u32) -> NodeRead
+    requires { ⌜ place .line + 3 < 2 ^ 32 ⌝ }
+    ensures { λ r. ⌜ nodeReadOf (now (s .entry)) r ≡ mapOutcome codedNode (node own (placeOf (now (s .entry)) place)) ⌝ }
+{
+    match three_at(s, place, BUDGET, own) {
+        ThreeRead::Refused(f) => NodeRead::Refused(f),
+        ThreeRead::Values(t, p) => NodeRead::One(
+            Node {
+                budget: t.first,
+                level: t.second,
+                after: t.third,
+            },
+            p,
+        ),
+    }
+}
+
+// The n nodes of a graph, into the entries from first on.
+pub fn nodes_at(
+    s: &[u8],
+    place: Place,
+    nodes: [Node; Table::SERVERS],
+    first: usize,
+    n: u32,
+) -> NodesRead
+    requires { ⌜ (first + n ≤ Limits.allNodes .to) × (place .line + 3 * n < 2 ^ 32) ⌝ }
+    ensures { λ r. ⌜ nodesReadOf (now (s .entry)) r ≡ mapOutcome (taken nodes first 0) (nodesFrom 1 n (placeOf (now (s .entry)) place)) ⌝ }
+{
+    let mut list = nodes;
+    let mut named: u32 = 0;
+    let mut p = place;
+    let mut own: u32 = 1;
+    let mut slot = first;
+    while own <= n {
+        match node_at(s, p, own) {
+            NodeRead::Refused(f) => {
+                return NodesRead {
+                    nodes: list,
+                    named,
+                    end: End::Refused(f),
+                };
+            }
+            NodeRead::One(x, q) => {
+                list[slot] = x;
+                named = named | x.after;
+                p = q;
+                own += 1;
+                slot += 1;
+            }
+        }
+    }
+    NodesRead {
+        nodes: list,
+        named,
+        end: End::At(p),
+    }
+}
+
+// The table with one more graph, whose nodes are in the list already.
+pub fn added(t: Table, head: Three, list: [Node; Table::SERVERS]) -> Table
+    requires { ⌜ (t .graphs < Limits.graphs .to) × (t .nodes ≤ Limits.allNodes .to) ⌝ }
+    ensures { λ r. ⌜ r ≡ addedGraph t head list ⌝ }
+{
+    let g = t.graphs;
+    let n = head.third as usize;
+    let mut graph = t.graph;
+    graph[g] = Graph {
+        period: head.first,
+        offset: head.second,
+        first: t.nodes,
+        nodes: n,
+    };
+    Table {
+        processors: t.processors,
+        rounds: t.rounds,
+        graphs: g + 1,
+        nodes: t.nodes + n,
+        graph,
+        node: list,
+    }
+}
+
+// A graph whose nodes are read, up to place p. What the mask leaves over are the nodes without a successor.
+pub fn graph_ended(
+    t: Table,
+    head: Three,
+    list: [Node; Table::SERVERS],
+    named: u32,
+    p: Place,
+) -> TableRead
+    requires { ⌜ (t .graphs < Limits.graphs .to) × (t .nodes ≤ Limits.allNodes .to) × (1 ≤ head .third) × (head .third ≤ Limits.nodes .to) × (0 < p .line) ⌝ }
+    ensures { λ r. ⌜ r ≡ endedGraph t head list named p ⌝ }
+{
+    if numbers::unset_below(named, head.third - 1) == 0 {
+        TableRead {
+            table: added(t, head, list),
+            end: End::At(p),
+        }
+    } else {
+        let line = p.line - 1;
+        TableRead {
+            table: t,
+            end: End::Refused(Refusal::AgainstPredecessorRules { line }),
+        }
+    }
+}
+
+// A graph's nodes, once the three lines of its head are read.
+pub fn graph_nodes(s: &[u8], place: Place, t: Table, head: Three) -> TableRead
+    requires { ⌜ (t .graphs < Limits.graphs .to) × (t .nodes ≤ Limits.allNodes .to) × (1 ≤ head .third) × (head .third ≤ Limits.nodes .to) × (0 < place .line) × (place .line + 3 * head .third < 2 ^ 32) ⌝ }
+    ensures { λ r. ⌜ tableReadOf (now (s .entry)) r ≡ mapOutcome (withGraph t) (graphNodes (t .nodes) (head .first) (head .second) (head .third) (place .line - 1) (placeOf (now (s .entry)) place)) ⌝ }
+{
+    let first = t.nodes;
+    let n = head.third;
+    if Table::SERVERS < first + n as usize {
+        let line = place.line - 1;
+        return TableRead {
+            table: t,
+            end: End::Refused(Refusal::OutsideLimits { line }),
+        };
+    }
+    let old = t.node;
+    let got = nodes_at(s, place, old, first, n);
+    let list = got.nodes;
+    let end = got.end;
+    match end {
+        End::Refused(f) => TableRead {
+            table: t,
+            end: End::Refused(f),
+        },
+        End::At(p) => graph_ended(t, head, list, got.named, p),
+    }
+}
+
+pub fn graph_at(s: &[u8], place: Place, t: Table) -> TableRead
+    requires { ⌜ (t .graphs < Limits.graphs .to) × (t .nodes ≤ Limits.allNodes .to) × (place .line + 3 + 3 * Limits.nodes .to < 2 ^ 32) ⌝ }
+    ensures { λ r. ⌜ tableReadOf (now (s .entry)) r ≡ mapOutcome (withGraph t) (graph (t .nodes) (placeOf (now (s .entry)) place)) ⌝ }
+{
+    match three_at(s, place, PERIOD, 0) {
+        ThreeRead::Refused(f) => TableRead {
+            table: t,
+            end: End::Refused(f),
+        },
+        ThreeRead::Values(head, p) => graph_nodes(s, p, t, head),
+    }
+}
+
+pub fn graphs_at(s: &[u8], place: Place, t: Table, n: u32) -> TableRead
+    requires { ⌜ (t .graphs + n ≤ Limits.graphs .to) × (t .nodes ≤ Limits.allNodes .to) × (place .line + n * (3 + 3 * Limits.nodes .to) < 2 ^ 32) ⌝ }
+    ensures { λ r. ⌜ tableReadOf (now (s .entry)) r ≡ mapOutcome (withGraphs t) (graphsFrom (t .nodes) n (placeOf (now (s .entry)) place)) ⌝ }
+{
+    let mut u = t;
+    let mut p = place;
+    let mut g: u32 = 0;
+    while g < n {
+        let got = graph_at(s, p, u);
+        let end = got.end;
+        match end {
+            End::Refused(f) => {
+                return TableRead {
+                    table: u,
+                    end: End::Refused(f),
+                };
+            }
+            End::At(q) => {
+                let v = got.table;
+                u = v;
+                p = q;
+                g += 1;
+            }
+        }
+    }
+    TableRead {
+        table: u,
+        end: End::At(p),
+    }
+}
+
+// No bytes follow the last line.
+pub fn ended_at(s: &[u8], got: TableRead) -> TableRead
+    ensures { λ r. ⌜ tableReadOf (now (s .entry)) r ≡ tableReadOf (now (s .entry)) got and-then (λ t p. ended t p (p .bytes)) ⌝ }
+{
+    let table = got.table;
+    let end = got.end;
+    match end {
+        End::Refused(f) => TableRead {
+            table,
+            end: End::Refused(f),
+        },
+        End::At(p) => {
+            let at = p.at;
+            let line = p.line;
+            if at < s.len() {
+                TableRead {
+                    table,
+                    end: End::Refused(Refusal::Misspelled { line }),
+                }
+            } else {
+                TableRead {
+                    table,
+                    end: End::At(p),
+                }
+            }
+        }
+    }
+}
+
+// The whole table, or refusal 1 to 4.
+pub fn table_read(s: &[u8]) -> TableRead
+    ensures { λ r. ⌜ tableReadOf (now (s .entry)) r ≡ mapOutcome memoryOf (readOf (now (s .entry))) ⌝ }
+{
+    if (Table::TABLE_BYTES_TO as usize) < s.len() {
+        return TableRead {
+            table: Table::empty(0, 0),
+            end: End::Refused(Refusal::TooLong),
+        };
+    }
+    match three_at(s, Place { line: 1, at: 0 }, PROCESSORS, 0) {
+        ThreeRead::Refused(f) => TableRead {
+            table: Table::empty(0, 0),
+            end: End::Refused(f),
+        },
+        ThreeRead::Values(head, p) => {
+            ended_at(
+                s,
+                graphs_at(s, p, Table::empty(head.first, head.second), head.third),
+            )
+        }
+    }
+}
