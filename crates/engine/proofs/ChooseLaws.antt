@@ -20,10 +20,11 @@ lay-step ks before first step n d {k} h e g =
     let q : n + (d + 1) ≡ suc (n + d) = omega arith in
     rw (q, take-suc-set ks (n + d) k h, g, add-one d, e) (append-assoc before (keysOf first step d) (keyOfSlot first step d ∷ []))
 
-pub lay-more : (first count level step : List ℕ) (i : ℕ) {before : List ℕ} {ready : ℕ} → before ≡ laidOut first count level step i → ready ≡ readyOf (getD count i 0) (getD level i 0)
-    → before ++ keysOf (getD first i 0) (getD step i 0) ready ≡ laidOut first count level step (i + 1)
+pub lay-more : (first count level step : List ℕ) (i : ℕ) {before after : List ℕ} {ready : ℕ} → before ≡ laidOut first count level step i
+    → ready ≡ readyOf (getD count i 0) (getD level i 0) → after ≡ before ++ keysOf (getD first i 0) (getD step i 0) ready
+    → after ≡ laidOut first count level step (i + 1)
 unfolding laidOut
-lay-more first count level step i e r = rw (add-one i, e, r)
+lay-more first count level step i e r g = rw (add-one i, ← e, ← r) g
 
 -- a key put in place
 module _ (best : List ℕ) (key i : ℕ) {u : List ℕ} {k : ℕ} (e : _≡_ {A = Carried} (record { best = u; carry = k }) (carriedTo best key i)) where

@@ -1,7 +1,7 @@
 -- Euclid's rule step by step, and what it gives: a divisor of both numbers. So a least common multiple is never below its first number.
 use mathlib.Core.Path.{_≡_, refl, sym, ap, _∙_, subst}
 use Prim.Native.Nat.{ℕ, zero, suc, _+_, _*_, _/_, _%_, _<_, _≤_}
-use native.Mathlib.Nat.{mod-lt, zero-lt-suc, lt-of-lt-of-le, le-of-suc-le-suc, not-suc-le-zero, le-refl, add-mul, mul-assoc, zero-mul, one-mul, div-add-mod', mul-div-cancel, mul-le-mul-left, le-mul-of-pos-right, mul-comm}
+use native.Mathlib.Nat.{mod-lt, zero-lt-suc, not-suc-le-zero, le-refl, add-mul, mul-assoc, zero-mul, one-mul, div-add-mod', mul-div-cancel, mul-le-mul-left, le-mul-of-pos-right, mul-comm}
 use native.Mathlib.Omega.{arith}
 use Rattle.rules.specs.Table.{euclid, gcd, lcm}
 

@@ -6,7 +6,7 @@ use Prim.Native.Nat.{ℕ, zero, suc, _+_, _-_, _*_, _/_, _%_, _^_, _<_, _≤_, m
 use native.Mathlib.Nat.{div-eq-of-lt, mul-mod-left, mod-lt, pow-suc, zero-lt-suc, one-mul, mod-eq-of-lt, mod-one, zero-mul, lt-of-lt-of-le}
 use native.Mathlib.Omega.{arith}
 use lib.Arith.{digits-mod, lt-of-le-ne}
-use lib.Bits.{bitAnd, bitOr, bitXor, differ, or-shr, or-step, xor-shr, xor-step, and-mask}
+use lib.Bits.{bitOr, bitXor, differ, or-shr, or-step, xor-shr, xor-step, and-mask}
 use lib.Dec.{ltb, eqb}
 use lib.Pow.{shl-shr, pow-add, pow-lt, pow-mono, pow-pos, mod-pow-add}
 use borrow.Author.Tests.{eq-eqb, ne-eqb, ltb-true, ltb-false, eqb-true, eqb-false, lt-ltb}

@@ -1,22 +1,19 @@
 -- A well-formed table in memory is admitted as the rules admit it: once a least common multiple is past the limit, so is the hyperperiod.
-use mathlib.Core.Path.{_≡_, refl, sym, _∙_, ap}
-use mathlib.Core.Bool.{Bool, true, false, cond}
+use mathlib.Core.Path.{_≡_, refl, _∙_, ap}
+use mathlib.Core.Bool.{true}
 use mathlib.Core.List.{List, [], _∷_}
 use Prim.Native.Nat.{ℕ, _*_, _<_, _≤_}
 use native.Mathlib.Nat.{le-refl, le-trans, lt-of-lt-of-le}
 use native.Mathlib.Omega.{arith}
 use lib.Dec.{leb}
 use borrow.Author.Tests.{le-leb, lt-leb, leb-true, leb-false}
-use Rattle.rules.specs.declared.Refusal.the-variants.{LongHyperperiod, NotLoadable}
 use Rattle.rules.specs.Limits as Limits
 use Rattle.rules.specs.Lists.{all?}
 use Rattle.rules.specs.Table.{Graph, Table, lcm, lcmFrom, hyperperiod, load, loadable}
 use Rattle.rules.specs.WellFormed.{graphFormed, wellFormed}
-use Rattle.rules.specs.Reading.{admit, admitted, refused}
-use Rattle.rules.proofs.Formed.{first-of, second-of, within-limits, graph-formed, table-formed}
-use Rattle.numbers.specs.declared.multiples.Multiple.{Multiple}
+use Rattle.rules.specs.Reading.{admit}
+use Rattle.rules.proofs.Formed.{by-test, first-of, second-of, within-limits, graph-formed, table-formed}
 use Rattle.numbers.specs.Multiples.{multipleWithin}
-use Rattle.numbers.proofs.Cases.{by-test}
 use Rattle.numbers.proofs.Euclid.{lcm-grows}
 use Rattle.table.specs.declared.Table.{Table as Memory}
 use Rattle.reading.specs.Memory.{memoryOf, tableOf}

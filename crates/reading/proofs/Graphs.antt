@@ -1,23 +1,22 @@
 -- A graph, graphs one after another, and the end of the table.
-use mathlib.Core.Path.{_≡_, refl, sym, _∙_, ap}
-use mathlib.Core.Bool.{Bool, true, false, cond}
+use mathlib.Core.Path.{_≡_, refl, _∙_, ap}
+use mathlib.Core.Bool.{true, cond}
 use mathlib.Core.List.{List, [], _∷_}
-use Prim.Native.Nat.{ℕ, zero, suc, _+_, _-_, _<_, _≤_}
+use Prim.Native.Nat.{ℕ, suc, _+_, _-_, _<_, _≤_}
 use native.Mathlib.Omega.{arith}
-use lib.Dec.{leb, eqb}
+use lib.Dec.{eqb}
 use lib.ListN.{length, drop}
 use borrow.Author.Tests.{le-leb, lt-leb}
 use Rattle.rules.specs.declared.Refusal.{Refusal}
 use Rattle.rules.specs.declared.Refusal.the-variants.{Misspelled, OutsideLimits, AgainstPredecessorRules}
 use Rattle.rules.specs.Limits as Limits
 use Rattle.rules.specs.Keys as Keys
-use Rattle.rules.specs.Keys.{keys}
-use Rattle.rules.specs.Table.{Node, Graph, Table}
+use Rattle.rules.specs.Table.{Node, Graph}
 use Rattle.rules.specs.WellFormed.{within, allFollowed, nodesFormed}
 use Rattle.rules.specs.Reading.{Place, Outcome, refused, done, _and-then_, numberLine, nodesFrom, graphNodes, graph, graphsFrom, ended, table}
 use Rattle.rules.proofs.Outcomes.{Holds, number-line-holds}
+use Rattle.rules.proofs.Formed.{by-test}
 use Rattle.numbers.specs.Masks.{unsetBelow}
-use Rattle.numbers.proofs.Cases.{by-test}
 use Rattle.table.specs.declared.Table.{Table as Memory}
 use Rattle.table.specs.Fresh.{emptyTable}
 use Rattle.reading.specs.declared.tables.Three.{Three}

@@ -1,6 +1,6 @@
 -- A line judged: what code knows of its value stands for the value.
 use mathlib.Core.Path.{_≡_, refl, sym, _∙_, ap}
-use mathlib.Core.Bool.{Bool, true, false, _&&_, cond, and-false}
+use mathlib.Core.Bool.{Bool, true, false, and-false}
 use mathlib.Core.List.{List, [], _∷_}
 use Prim.Native.Nat.{ℕ, _<_, _≤_}
 use native.Mathlib.Omega.{arith}
@@ -12,12 +12,10 @@ use Rattle.rules.specs.Keys.{keyAt}
 use Rattle.rules.specs.Limits.{Range}
 use Rattle.rules.specs.Spelling.{Scan, read, wrong, _⟫_, text, heading}
 use Rattle.rules.specs.WellFormed.{within, orderly}
-use Rattle.rules.proofs.Formed.{within-limits}
-use Rattle.numbers.proofs.Cases.{by-test}
-use Rattle.reading.specs.declared.lists.Listing.{Listing}
+use Rattle.rules.proofs.Formed.{by-test, within-limits}
 use Rattle.reading.specs.Positions.{far, kept}
 use Rattle.reading.specs.Masks.{maskOf, listing}
-use Rattle.reading.specs.Lines.{Judged, misspelled, judgeBy, closed, same, always, lineJudged}
+use Rattle.reading.specs.Lines.{misspelled, judgeBy, closed, same, always, lineJudged}
 use Rattle.reading.proofs.Predecessors.{listing-orderly, listing-mask}
 
 -- a value that was judged before LF was looked for

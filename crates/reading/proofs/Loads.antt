@@ -1,18 +1,17 @@
 -- The steps of the least common multiple, and the room that a load leaves, graph after graph and node after node.
-use mathlib.Core.Path.{_≡_, refl, sym, _∙_, ap}
-use mathlib.Core.Bool.{Bool, true, false, cond}
+use mathlib.Core.Path.{_≡_, refl}
+use mathlib.Core.Bool.{true, false}
 use mathlib.Core.List.{List, [], _∷_}
-use Prim.Native.Nat.{ℕ, zero, suc, _+_, _-_, _<_, _≤_}
+use Prim.Native.Nat.{ℕ, suc, _+_, _-_, _<_, _≤_}
 use native.Mathlib.Numerals.{add-one}
 use native.Mathlib.Omega.{arith}
 use lib.Dec.{leb}
 use borrow.Author.Tests.{le-leb, lt-leb, leb-true, leb-false}
-use Rattle.rules.specs.Lists.{sum, tab}
+use Rattle.rules.specs.Lists.{tab}
 use Rattle.rules.specs.Table.{Graph, lcm}
+use Rattle.rules.proofs.Formed.{by-test}
 use Rattle.numbers.specs.declared.multiples.Multiple.the-variants.{Within, Past}
 use Rattle.numbers.specs.Multiples.{multipleWithin}
-use Rattle.numbers.proofs.Cases.{by-test}
-use Rattle.reading.specs.declared.admission.Room.{Room}
 use Rattle.reading.specs.declared.admission.Room.the-variants.{Left, Over}
 use Rattle.reading.specs.Admission.{hyperperiodWithin, roomAfter}
 

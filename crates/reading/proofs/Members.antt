@@ -1,6 +1,6 @@
 -- A list that keeps the predecessor rules is the list of its mask.
-use mathlib.Core.Path.{_≡_, refl, sym, _∙_, ap}
-use mathlib.Core.Bool.{Bool, true, false, _&&_, _||_, cond}
+use mathlib.Core.Path.{_≡_, refl, _∙_, ap}
+use mathlib.Core.Bool.{Bool, true, false, _&&_, cond}
 use mathlib.Core.List.{List, [], _∷_}
 use Prim.Native.Nat.{ℕ, zero, suc, _+_, _-_, _<_, _≤_}
 use native.Mathlib.Omega.{arith}
@@ -10,9 +10,8 @@ use borrow.Author.Tests.{eq-eqb, ne-eqb, ltb-true, eqb-true, eqb-false, lt-ltb}
 use Rattle.rules.specs.Limits as Limits
 use Rattle.rules.specs.Lists.{any?, keep, numbers}
 use Rattle.rules.specs.WellFormed.{rising, orderly}
-use Rattle.rules.proofs.Formed.{first-of, second-of}
-use Rattle.numbers.specs.Masks.{width, bit}
-use Rattle.numbers.proofs.Cases.{by-test}
+use Rattle.rules.proofs.Formed.{by-test, first-of, second-of}
+use Rattle.numbers.specs.Masks.{bit}
 use Rattle.reading.specs.Masks.{maskOf, listOf}
 use Rattle.reading.proofs.Successors.{orderly-fits, mask-bit}
 

@@ -1,11 +1,11 @@
 -- What the struct says of a well-formed table is the table. Shown at the end: `table-of-memory`.
 use mathlib.Core.Path.{_≡_, refl, sym, _∙_, ap}
-use mathlib.Core.Bool.{Bool, true, false, _&&_}
+use mathlib.Core.Bool.{true}
 use mathlib.Core.List.{List, [], _∷_, map}
 use Prim.Native.Nat.{ℕ, zero, suc, _+_, _<_, _≤_}
 use native.Mathlib.Numerals.{add-one}
 use native.Mathlib.Omega.{arith}
-use lib.ListN.{length, getD, set, length-set, length-replicate}
+use lib.ListN.{length, getD, set, length-set}
 use lib.Seq.{sets, length-sets, getD-set-same, getD-set-other}
 use Rattle.rules.specs.Limits as Limits
 use Rattle.rules.specs.Lists.{all?, sum, tab}
@@ -16,7 +16,6 @@ use Rattle.table.specs.declared.Table.{Table}
 use Rattle.table.specs.declared.Graph.{Graph}
 use Rattle.table.specs.declared.Node.{Node}
 use Rattle.table.specs.Fresh.{noGraph, noNode, emptyTable}
-use Rattle.reading.specs.Masks.{maskOf, listOf}
 use Rattle.reading.specs.Memory.{codedNode, filled, withGraph, withGraphs, memoryOf, nodeOf, graphOf, tableOf}
 use Rattle.reading.proofs.Members.{list-of-mask}
 
@@ -41,7 +40,8 @@ nodes-back v [] rows f h l e = refl
 nodes-back v (x ∷ xs) rows f h l e =
     let next = set rows f (codedNode x) in
     let same : length next ≡ length rows = length-set rows f (codedNode x) in
-    let here : getD (filled rows f (x ∷ xs)) f noNode ≡ codedNode x = before-sets (map codedNode xs) next (suc f) f (omega arith) ∙ getD-set-same rows f (codedNode x) noNode (omega arith) in
+    let here : getD (filled rows f (x ∷ xs)) f noNode ≡ codedNode x = before-sets (map codedNode xs) next (suc f) f (omega arith)
+    ∙ getD-set-same rows f (codedNode x) noNode (omega arith) in
     ap (λ (y : Rules.Node). y ∷ tab (λ (i : ℕ). nodeOf (getD (filled rows f (x ∷ xs)) i noNode)) (suc f) (length xs)) (ap nodeOf here ∙ node-back v x xs (omega arith) e)
     ∙ ap (λ (ys : List Rules.Node). x ∷ ys) (nodes-back (suc v) xs next (suc f) (omega arith) (omega arith) (node-formed v x xs e .others))
 

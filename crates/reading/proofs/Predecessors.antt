@@ -1,6 +1,6 @@
 -- A list of predecessors, read one number after the other: what code knows of it at each comma, and at its end.
 use mathlib.Core.Path.{_≡_, refl, sym, _∙_, ap, subst}
-use mathlib.Core.Bool.{Bool, true, false, _&&_, cond, and-false, false≢true}
+use mathlib.Core.Bool.{true, false, _&&_, cond, and-false, false≢true}
 use mathlib.Core.List.{List, [], _∷_, tail}
 use Prim.Native.Nat.{ℕ, zero, suc, _+_, _-_, _*_, _<_, _≤_}
 use native.Mathlib.Nat.{not-suc-le-zero}
@@ -11,8 +11,8 @@ use borrow.Author.Tests.{le-ltb, leb-true, leb-false}
 use Rattle.rules.specs.Bytes.{bytes, comma, digitZero, isDigit, valueOf}
 use Rattle.rules.specs.Spelling.{Scan, read, wrong, _⟫_, text, digits, number, numbersBy, numbers, next?, letterN, list}
 use Rattle.rules.specs.WellFormed.{rising, orderly}
+use Rattle.rules.proofs.Formed.{by-test}
 use Rattle.numbers.specs.Masks.{with}
-use Rattle.numbers.proofs.Cases.{by-test}
 use Rattle.reading.specs.declared.lists.Listing.{Listing}
 use Rattle.reading.specs.Positions.{mapScan, far, kept, capped}
 use Rattle.reading.specs.Masks.{maskFrom, maskOf, entered, entries, noEntries, listing}

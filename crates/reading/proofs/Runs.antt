@@ -1,8 +1,8 @@
 -- Lines one after another: the line with its number, three lines, a node, and the nodes of a graph.
 use mathlib.Core.Path.{_≡_, refl, sym, _∙_, ap}
-use mathlib.Core.Bool.{Bool, true, false, _&&_, cond}
-use mathlib.Core.List.{List, [], _∷_}
-use Prim.Native.Nat.{ℕ, zero, suc, _+_, _-_, _<_, _≤_}
+use mathlib.Core.Bool.{Bool, true, false, cond}
+use mathlib.Core.List.{List, _∷_}
+use Prim.Native.Nat.{ℕ, suc, _+_, _-_, _<_, _≤_}
 use native.Mathlib.Numerals.{add-one}
 use native.Mathlib.Omega.{arith}
 use lib.Bits.{bitOr}
@@ -18,7 +18,7 @@ use Rattle.rules.specs.Table.{Node}
 use Rattle.rules.specs.WellFormed.{within, orderly}
 use Rattle.rules.specs.Reading.{Place, Outcome, refused, done, _and-then_, judged, numberLine, afterLine, node, nodesFrom}
 use Rattle.rules.proofs.Outcomes.{Holds, then-holds, number-line-holds, after-line-holds}
-use Rattle.numbers.proofs.Cases.{by-test}
+use Rattle.rules.proofs.Formed.{by-test}
 use Rattle.table.specs.declared.Node.{Node as Row}
 use Rattle.reading.specs.declared.tables.Three.{Three}
 use Rattle.reading.specs.Masks.{maskOf}

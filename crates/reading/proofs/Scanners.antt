@@ -1,8 +1,8 @@
 -- The scanners at a position of the bytes: at the end, and at a byte. Two laws, `next` and `past`, carry the others.
 use mathlib.Core.Path.{_≡_, sym, _∙_, ap}
-use mathlib.Core.Bool.{Bool, true, false, _&&_, cond}
+use mathlib.Core.Bool.{true, false, cond}
 use mathlib.Core.List.{List, [], _∷_, tail}
-use Prim.Native.Nat.{ℕ, _+_, _*_, _<_, _≤_, min}
+use Prim.Native.Nat.{ℕ, _+_, _*_, _<_, _≤_}
 use native.Mathlib.Numerals.{add-one}
 use native.Mathlib.Omega.{arith}
 use lib.Dec.{leb}
@@ -10,9 +10,8 @@ use lib.ListN.{length, getD, take, drop, drop-of-length-le, length-take}
 use lib.Seq.{drop-cons, length-take-le, getD-take}
 use borrow.Author.Tests.{eq-eqb, ne-eqb, leb-true, leb-false}
 use Rattle.rules.specs.Bytes.{digitZero, isDigit, valueOf}
-use Rattle.rules.specs.Spelling.{Scan, read, wrong, text, digits, number, next?}
-use Rattle.rules.proofs.Formed.{first-of, second-of}
-use Rattle.numbers.proofs.Cases.{by-test}
+use Rattle.rules.specs.Spelling.{read, wrong, text, digits, number, next?}
+use Rattle.rules.proofs.Formed.{by-test, first-of, second-of}
 use Rattle.reading.specs.Positions.{far, kept, capped}
 
 -- one more byte: the code's p + 1

@@ -53,18 +53,20 @@ pub fn is_within(k: usize, v: u32) -> bool
     range.from <= v && v <= range.to
 }
 
-// The LF behind a value v, which is fair or not: spelling is judged first.
+// The LF behind a value v, which is fair or not: also of one that is not fair, spelling is judged first.
 pub fn closed_at(s: &[u8], at: usize, v: u32, fair: bool) -> Line
     ensures { λ r. ⌜ judgedOf (now (s .entry)) r ≡ judgeBy same (always fair) (closed v (drop at (now (s .entry)))) ⌝ }
 {
-    match byte_at(s, at, b'\n') {
-        Found::Wrong(p) => Line::Misspelled(p),
-        Found::After(p) => {
-            if fair {
-                Line::Value(v, p)
-            } else {
-                Line::Unfair
-            }
+    let end = byte_at(s, at, b'\n');
+    if fair {
+        match end {
+            Found::Wrong(p) => Line::Misspelled(p),
+            Found::After(p) => Line::Value(v, p),
+        }
+    } else {
+        match end {
+            Found::Wrong(q) => Line::Misspelled(q),
+            Found::After(_) => Line::Unfair,
         }
     }
 }

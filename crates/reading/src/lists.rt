@@ -1,7 +1,6 @@
 // The list of a node's predecessors, taken into a mask as it is read.
 use crate::scanning::Found;
 use crate::scanning::Scanned;
-use crate::scanning::byte_at;
 use crate::scanning::next_is;
 use crate::scanning::number_at;
 use crate::scanning::text_at;

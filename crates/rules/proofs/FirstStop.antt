@@ -60,3 +60,9 @@ module _ (X : Box) (need : ℕ → ℕ → ℕ) where
   stopped-is-first =
       let w = search-from (suc last) 0 zero-le (omega arith) in
       record { stops = w .stops; not-before = λ u l. w .first u zero-le l }
+
+  -- the walk stops at the last boundary at the latest
+  pub stops-in-time : (stopped X need) .ticks ≤ boundary X need (X .rounds)
+  stops-in-time =
+      by-lt (boundary X need (X .rounds)) ((stopped X need) .ticks) (λ l. absurd (ends (stopped-is-first .not-before (boundary X need (X .rounds)) l)))
+      (λ l. l)

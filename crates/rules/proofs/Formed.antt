@@ -1,4 +1,4 @@
--- What the tests of well-formedness say, fact by fact: nothing else takes them apart.
+-- Tests taken apart: what those of well-formedness say, fact by fact.
 use mathlib.Core.Path.{_≡_, refl}
 use mathlib.Core.Bool.{Bool, true, false, _&&_}
 use mathlib.Core.List.{List, _∷_}
@@ -12,6 +12,11 @@ use Rattle.rules.specs.Limits.{Range}
 use Rattle.rules.specs.Lists.{all?, sum}
 use Rattle.rules.specs.Table.{Node, Graph, Table}
 use Rattle.rules.specs.WellFormed.{within, orderly, allFollowed, nodesFormed, graphFormed, wellFormed}
+
+-- a test is true or false
+pub by-test : {C : Type 0} (b : Bool) → (b ≡ true → C) → (b ≡ false → C) → C
+by-test true f g = f refl
+by-test false f g = g refl
 
 -- two tests that both pass
 pub both : {a b : Bool} → a ≡ true → b ≡ true → a && b ≡ true

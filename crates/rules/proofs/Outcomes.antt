@@ -1,8 +1,7 @@
 -- What holds of the value and the place that reading comes to, line after line.
-use mathlib.Core.Path.{_≡_, refl, sym, subst}
-use mathlib.Core.Bool.{Bool, true, false, cond}
-use Prim.Native.Nat.{ℕ, suc, _+_, _*_}
-use native.Mathlib.Omega.{arith}
+use mathlib.Core.Path.{_≡_, refl, subst}
+use mathlib.Core.Bool.{Bool, true}
+use Prim.Native.Nat.{ℕ, suc}
 use Rattle.rules.specs.declared.Refusal.{Refusal}
 use Rattle.rules.specs.declared.Refusal.the-variants.{OutsideLimits, AgainstPredecessorRules}
 use Rattle.rules.specs.Keys.{keyAt}
@@ -10,11 +9,7 @@ use Rattle.rules.specs.Keys as Keys
 use Rattle.rules.specs.Spelling.{Scan, read, wrong, number, list, line}
 use Rattle.rules.specs.WellFormed.{within, orderly}
 use Rattle.rules.specs.Reading.{Place, Outcome, refused, done, _and-then_, judged, numberLine, afterLine}
-
--- a test is true or false
-pub by-test : {C : Type 0} (b : Bool) → (b ≡ true → C) → (b ≡ false → C) → C
-by-test true f g = f refl
-by-test false f g = g refl
+use Rattle.rules.proofs.Formed.{by-test}
 
 module _ {A : Type 0} where
   -- P holds of the value and the place, where there are any

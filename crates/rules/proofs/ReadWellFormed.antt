@@ -1,24 +1,23 @@
 -- What is read is well-formed. Shown at the end: `read-well-formed`, and `admitted-well-formed`, which adds that the hyperperiod is within
 -- its limit.
-use mathlib.Core.Path.{_≡_, refl, sym, ap, _∙_, subst}
-use mathlib.Core.Bool.{Bool, true, false, _&&_, cond}
+use mathlib.Core.Path.{_≡_, refl, sym, ap, subst}
+use mathlib.Core.Bool.{Bool, true, _&&_}
 use mathlib.Core.List.{List, [], _∷_}
 use Prim.Native.Nat.{ℕ, zero, suc, _+_, _*_, _-_, _≤_}
 use native.Mathlib.Omega.{arith}
 use lib.Dec.{T, leb}
 use lib.ListN.{length}
 use borrow.Author.Tests.{leb-true}
-use Rattle.rules.specs.declared.Refusal.the-variants.{OutsideLimits, AgainstPredecessorRules, TooLong, LongHyperperiod, NotLoadable}
 use Rattle.rules.specs.Limits as Limits
 use Rattle.rules.specs.Lists.{all?, sum}
 use Rattle.rules.specs.Keys as Keys
-use Rattle.rules.specs.Keys.{keys, keyAt}
-use Rattle.rules.specs.Table.{Node, Graph, Table, hyperperiod, loadable}
+use Rattle.rules.specs.Keys.{keys}
+use Rattle.rules.specs.Table.{Graph, Table, hyperperiod, loadable}
 use Rattle.rules.specs.WellFormed.{within, orderly, allFollowed, nodesFormed, graphFormed, wellFormed}
-use Rattle.rules.specs.Reading.{Place, Outcome, refused, done, _and-then_, numberLine, afterLine, node, nodesFrom, graphNodes, graph, graphsFrom, ended, table, readOf, Admission, admitted, admit, admitRead, admissionOf}
+use Rattle.rules.specs.Reading.{Place, Outcome, refused, done, numberLine, afterLine, node, nodesFrom, graphNodes, graph, graphsFrom, ended, table, readOf, Admission, admitted, admit, admitRead, admissionOf}
 use Rattle.rules.specs.Reading as Reading
-use Rattle.rules.proofs.Formed.{both, within-limits, limits-within, graph-formed}
-use Rattle.rules.proofs.Outcomes.{by-test, Holds, told, then-holds, number-line-holds, after-line-holds}
+use Rattle.rules.proofs.Formed.{by-test, both, within-limits, limits-within, graph-formed}
+use Rattle.rules.proofs.Outcomes.{Holds, told, then-holds, number-line-holds, after-line-holds}
 
 -- a node has three lines
 pub node-holds : (own : ℕ) (p : Place)

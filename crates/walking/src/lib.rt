@@ -3,7 +3,7 @@ use table::State;
 use table::Table;
 use window::Plan;
 ghost use mathlib.Core.Path.{_≡_};
-ghost use Prim.Native.Nat.{_≤_};
+ghost use Prim.Native.Nat.{_+_, _*_, _≤_};
 ghost use Rattle.rules.specs.Limits as Limits;
 ghost use Rattle.walking.specs.Walking as Mirror;
 
@@ -31,7 +31,7 @@ pub fn walk_to(
     rounds: u32,
     asked: u32,
 ) -> Walk
-    requires { ⌜ (1 ≤ plan .processors) × (plan .processors ≤ Limits.processors .to) × (origin ≤ Limits.offset .to) × (hyper ≤ Limits.hyperperiod .to) × (rounds ≤ Limits.rounds .to) ⌝ }
+    requires { ⌜ (1 ≤ plan .processors) × (plan .processors ≤ Limits.processors .to) × (origin + rounds * hyper ≤ Limits.offset .to + Limits.rounds .to * Limits.hyperperiod .to) ⌝ }
     ensures { λ r. ⌜ r ≡ Mirror.walkOf plan offsets origin hyper rounds asked ⌝ }
 {
     let n = engine::smaller(plan.nodes, Table::SERVERS);

@@ -2,7 +2,7 @@
 use mathlib.Core.Path.{_≡_, refl, sym, ap, _∙_}
 use mathlib.Core.Logic.{⊎-elim, inl, inr}
 use Prim.Native.Nat.{ℕ, suc, _+_, _*_, _-_, _≤_}
-use native.Mathlib.Nat.{mul-le-mul, sub-zero}
+use native.Mathlib.Nat.{sub-zero}
 use native.Mathlib.Omega.{arith}
 use lib.ListN.{length}
 use borrow.Author.Needs.{needs}
@@ -43,13 +43,11 @@ smaller-requires c κs = search needs
 
 -- src/lib.rt:34:25
 mul-last : tie.Need-mul-last Inv-loop μ-loop
-mul-last c =
-    record { fits = omega (arith, mul-le-mul {n₁ = c .before .before .args .rounds} {m₁ = c .before .before .args .hyper} (c .before .before .pre .4) (c .before .before .pre .3)) }
+mul-last c = record { fits = omega (arith, c .before .before .pre .2) }
 
 -- src/lib.rt:34:16
 add-last : tie.Need-add-last Inv-loop μ-loop
-add-last c =
-    record { fits = omega (arith, mul-le-mul {n₁ = c .before .before .args .rounds} {m₁ = c .before .before .args .hyper} (c .before .before .pre .4) (c .before .before .pre .3)) }
+add-last c = record { fits = omega (arith, c .before .before .pre .2) }
 
 -- src/lib.rt:35:18
 fresh-requires : tie.Need-fresh-requires Inv-loop μ-loop
@@ -175,8 +173,7 @@ any-done-requires c κs =
 
 -- src/lib.rt:71:41
 add-finished : tie.Need-add-finished Inv-loop μ-loop
-add-finished c =
-    record { fits = omega (arith, c .before .before .before .before .before .before .before .before .before .before .before .before .before .before .before .before .before .before .before .before .before .before .before .before .before .before .before .before .before .before .before .before .before .before .before .pre, mul-le-mul {n₁ = c .before .before .before .before .before .before .before .before .before .before .before .before .before .before .before .before .before .before .before .before .before .before .before .before .before .before .before .before .before .before .before .before .before .before .before .args .rounds} {m₁ = c .before .before .before .before .before .before .before .before .before .before .before .before .before .before .before .before .before .before .before .before .before .before .before .before .before .before .before .before .before .before .before .before .before .before .before .args .hyper} (c .before .before .before .before .before .before .before .before .before .before .before .before .before .before .before .before .before .before .before .before .before .before .before .before .before .before .before .before .before .before .before .before .before .before .before .pre .4) (c .before .before .before .before .before .before .before .before .before .before .before .before .before .before .before .before .before .before .before .before .before .before .before .before .before .before .before .before .before .before .before .before .before .before .before .pre .3), c .before .before .before .before .before .before .before .before .before .before .before .before .before .before .before .before .before .before .before .before .before .before .before .before .before .before .before .before .before .before .loop-test .taken) }
+add-finished c = record { fits = omega (arith, c .before .before .before .before .before .before .before .before .before .before .before .before .before .before .before .before .before .before .before .before .before .before .before .before .before .before .before .before .before .before .before .before .before .before .before .pre .2, c .before .before .before .before .before .before .before .before .before .before .before .before .before .before .before .before .before .before .before .before .before .before .before .before .before .before .before .before .before .before .loop-test .taken) }
 
 -- src/lib.rt:71:18
 finished-requires : tie.Need-finished-requires Inv-loop μ-loop
@@ -188,8 +185,7 @@ waited-requires c κs = search needs
 
 -- src/lib.rt:75:9
 add-t : tie.Need-add-t Inv-loop μ-loop
-add-t c =
-    record { fits = omega (arith, c .before .before .before .before .before .before .before .before .before .before .before .before .before .before .before .before .before .before .before .before .before .before .before .before .before .before .before .before .before .before .before .before .before .before .before .before .pre, mul-le-mul {n₁ = c .before .before .before .before .before .before .before .before .before .before .before .before .before .before .before .before .before .before .before .before .before .before .before .before .before .before .before .before .before .before .before .before .before .before .before .before .args .rounds} {m₁ = c .before .before .before .before .before .before .before .before .before .before .before .before .before .before .before .before .before .before .before .before .before .before .before .before .before .before .before .before .before .before .before .before .before .before .before .before .args .hyper} (c .before .before .before .before .before .before .before .before .before .before .before .before .before .before .before .before .before .before .before .before .before .before .before .before .before .before .before .before .before .before .before .before .before .before .before .before .pre .4) (c .before .before .before .before .before .before .before .before .before .before .before .before .before .before .before .before .before .before .before .before .before .before .before .before .before .before .before .before .before .before .before .before .before .before .before .before .pre .3), c .before .before .before .before .before .before .before .before .before .before .before .before .before .before .before .before .before .before .before .before .before .before .before .before .before .before .before .before .before .before .before .loop-test .taken) }
+add-t c = record { fits = omega (arith, c .before .before .before .before .before .before .before .before .before .before .before .before .before .before .before .before .before .before .before .before .before .before .before .before .before .before .before .before .before .before .before .before .before .before .before .before .pre .2, c .before .before .before .before .before .before .before .before .before .before .before .before .before .before .before .before .before .before .before .before .before .before .before .before .before .before .before .before .before .before .before .loop-test .taken) }
 
 -- src/lib.rt:41:5
 loop-less : tie.Need-loop-less Inv-loop μ-loop

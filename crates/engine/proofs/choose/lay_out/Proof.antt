@@ -1,5 +1,5 @@
 -- `lay_out` meets its contract. The loop keeps: the keys of the first i servers are laid out, at most as many as the levels allow.
-use mathlib.Core.Path.{_≡_, refl, _∙_}
+use mathlib.Core.Path.{_≡_, refl}
 use Prim.Native.Nat.{_*_, _-_, _≤_}
 use native.Mathlib.Nat.{le-antisymm}
 use native.Mathlib.Omega.{arith}
@@ -61,8 +61,8 @@ loop-again c =
         omega arith,
         (
           c .lay-server .ensures .1 .0,
-          c .lay-server .ensures .1 .1
-              ∙ lay-more (a .first .now) (a .count .now) (a .level .now) (a .step .now) (x .loop .i) (x .loop .inv .1 .1 .1) (c .before .ready-of .ensures),
+          lay-more (a .first .now) (a .count .now) (a .level .now) (a .step .now) (x .loop .i) (x .loop .inv .1 .1 .1) (c .before .ready-of .ensures)
+              (c .lay-server .ensures .1 .1),
         ),
       ),
     )

@@ -1,7 +1,7 @@
 -- `same_slots` meets its contract. The loop keeps: the first d slots are the same.
 use mathlib.Core.Path.{_≡_, refl, sym, ap, _∙_}
 use mathlib.Core.Bool.{Bool, true, _&&_}
-use Prim.Native.Nat.{_-_, _≤_}
+use Prim.Native.Nat.{ℕ, _-_, _≤_}
 use native.Mathlib.Nat.{le-antisymm}
 use native.Mathlib.Omega.{arith}
 use borrow.Author.Tests.{eq-eqb, ne-eqb, not-true, not-false}
@@ -42,12 +42,22 @@ mul-if1-2 c = search needs
 element-copy-out-if1-2 : tie.Need-element-copy-out-if1-2 Inv-loop μ-loop
 element-copy-out-if1-2 c = search needs
 
+abbrev slots : tie.Start Inv-loop μ-loop → ℕ → Bool
+slots c = let a = c .args in slotSame (a .t1) (a .t2) (a .left .now) (a .other .now) (a .base)
+
+decided : (c : tie.After-same-pending Inv-loop μ-loop) → slots (c .before .before .before .before .before .before .before .before) (c .before .before .before .before .before .before .before .loop .d) ≡ c .same-pending .result
+decided c =
+    let x = c .before .before .before .before .before .before .before in
+    let a = x .before .args in
+    let d = x .loop .d in
+    ap (λ (b : Bool). b && samePending (slotOf (a .t1) d) (slotOf (a .t2) d)) (eq-eqb _ _ (c .before .before .before .if1 .left)) ∙ sym (c .same-pending .ensures)
+
 returns : tie.Need-returns Inv-loop μ-loop
 returns c =
     let x = c .before .before .before .before in
     let a = x .before .args in
     let d = x .loop .d in
-    all-missed (slotSame (a .t1) (a .t2) (a .left .now) (a .other .now) (a .base)) (a .n) d (omega arith)
+    all-missed (slots (x .before)) (a .n) d (omega arith)
     (ap (λ (b : Bool). b && samePending (slotOf (a .t1) d) (slotOf (a .t2) d)) (ne-eqb _ _ (c .if1 .taken)))
 
 mul-same-pending : tie.Need-mul-same-pending Inv-loop μ-loop
@@ -68,11 +78,7 @@ same-pending-requires c κs = search needs
 returns-2 : tie.Need-returns-2 Inv-loop μ-loop
 returns-2 c =
     let x = c .before .before .before .before .before .before .before .before in
-    let a = x .before .args in
-    let d = x .loop .d in
-    all-missed (slotSame (a .t1) (a .t2) (a .left .now) (a .other .now) (a .base)) (a .n) d (omega arith)
-    (ap (λ (b : Bool). b && samePending (slotOf (a .t1) d) (slotOf (a .t2) d)) (eq-eqb _ _ (c .before .before .before .before .if1 .left))
-    ∙ sym (c .before .same-pending .ensures) ∙ not-true _ (c .if2 .taken))
+    all-missed (slots (x .before)) (x .before .args .n) (x .loop .d) (omega arith) (decided (c .before) ∙ not-true _ (c .if2 .taken))
 
 add-d : tie.Need-add-d Inv-loop μ-loop
 add-d c = search needs
@@ -83,14 +89,7 @@ loop-less c = search needs
 loop-again : tie.Need-loop-again Inv-loop μ-loop
 loop-again c =
     let x = c .before .before .before .before .before .before .before .before in
-    let a = x .before .args in
-    let d = x .loop .d in (
-      search needs,
-      x .loop .inv .1
-          ∙ all-yes (slotSame (a .t1) (a .t2) (a .left .now) (a .other .now) (a .base)) d
-          (ap (λ (b : Bool). b && samePending (slotOf (a .t1) d) (slotOf (a .t2) d)) (eq-eqb _ _ (c .before .before .before .before .if1 .left))
-          ∙ sym (c .before .same-pending .ensures) ∙ not-false _ (c .if2 .left)),
-    )
+    (search needs, x .loop .inv .1 ∙ all-yes (slots (x .before)) (x .loop .d) (decided (c .before) ∙ not-false _ (c .if2 .left)))
 
 returns-3 : tie.Need-returns-3 Inv-loop μ-loop
 returns-3 c = let x = c .before in rw (le-antisymm (x .loop .inv .0) (c .loop-test .left)) at (x .loop .inv .1)

@@ -2,7 +2,7 @@
 use mathlib.Core.Path.{_≡_, refl, sym, _∙_}
 use mathlib.Core.Bool.{true}
 use mathlib.Core.Logic.{⊎-elim}
-use Prim.Native.Nat.{_-_, _≤_}
+use Prim.Native.Nat.{_-_, _≤_, _<_}
 use native.Mathlib.Nat.{le-antisymm}
 use native.Mathlib.Omega.{arith}
 use borrow.Author.Tests.{eqb-true, eqb-false, not-true, not-false}
@@ -70,11 +70,11 @@ same-counts-requires c κs = search needs
 
 returns-2 : tie.Need-returns-2 Inv-loop μ-loop
 returns-2 c =
-    let x = c .before .before .before .before .before .before .before .before .before .before .before in
+    let t = c .before .before .before .before in
+    let x = t .before .before .before .before .before .before .before in
     let a = x .before .args in
-    let i = x .loop .i in
-    all-missed (sameServer (a .t1) (a .t2)) (a .n) i (omega (arith, c .before .before .before .before .before .before .before .before .before .before .loop-test .taken))
-    (counts-differ (a .t1) (a .t2) i (c .before .before .before .before .before .before .before .if1 .left) (eqb-true _ _ (not-false _ (c .before .before .before .before .if2 .left)))
+    all-missed (sameServer (a .t1) (a .t2)) (a .n) (x .loop .i) (t .before .before .before .before .before .before .loop-test .taken)
+    (counts-differ (a .t1) (a .t2) (x .loop .i) (t .before .before .before .if1 .left) (eqb-true _ _ (not-false _ (t .if2 .left)))
     (sym (c .before .same-counts .ensures) ∙ not-true _ (c .if3 .taken)))
 
 mul-same-slots : tie.Need-mul-same-slots Inv-loop μ-loop
@@ -89,15 +89,25 @@ smaller-requires c κs = search needs
 same-slots-requires : tie.Need-same-slots-requires Inv-loop μ-loop
 same-slots-requires c κs = search needs
 
+-- the turn's test, where the slots are compared
+abbrev head : tie.After-same-slots Inv-loop μ-loop → tie.At-loop Inv-loop μ-loop
+head c = c .before .before .before .before .before .before .before .before .before .before .before .before .before .before .before .before .before
+
+in-turn : (c : tie.After-same-slots Inv-loop μ-loop) → head c .loop .i < head c .before .args .n
+in-turn c = c .before .before .before .before .before .before .before .before .before .before .before .before .before .before .before .before .loop-test .taken
+
+decided : (c : tie.After-same-slots Inv-loop μ-loop) → sameServer (head c .before .args .t1) (head c .before .args .t2) (head c .loop .i) ≡ c .same-slots .result
+decided c =
+    let t = c .before .before .before .before .before .before in
+    let a = head c .before .args in
+    slots-decide (a .t1) (a .t2) (head c .loop .i) (t .before .before .before .before .before .before .before .if1 .left) (eqb-true _ _ (not-false _ (t .before .before .before .before .if2 .left)))
+    (sym (t .before .same-counts .ensures) ∙ not-false _ (t .if3 .left)) (c .before .smaller .ensures) (c .same-slots .ensures)
+
 returns-3 : tie.Need-returns-3 Inv-loop μ-loop
 returns-3 c =
-    let x = c .before .before .before .before .before .before .before .before .before .before .before .before .before .before .before .before .before .before in
+    let x = head (c .before) in
     let a = x .before .args in
-    let i = x .loop .i in
-    all-missed (sameServer (a .t1) (a .t2)) (a .n) i (c .before .before .before .before .before .before .before .before .before .before .before .before .before .before .before .before .before .loop-test .taken)
-    (slots-decide (a .t1) (a .t2) i (c .before .before .before .before .before .before .before .before .before .before .before .before .before .before .if1 .left) (eqb-true _ _ (not-false _ (c .before .before .before .before .before .before .before .before .before .before .before .if2 .left)))
-    (sym (c .before .before .before .before .before .before .before .before .same-counts .ensures) ∙ not-false _ (c .before .before .before .before .before .before .before .if3 .left)) (c .before .before .smaller .ensures)
-    (sym (not-true _ (c .if4 .taken)) ∙ c .before .same-slots .ensures))
+    all-missed (sameServer (a .t1) (a .t2)) (a .n) (x .loop .i) (in-turn (c .before)) (decided (c .before) ∙ not-true _ (c .if4 .taken))
 
 add-i : tie.Need-add-i Inv-loop μ-loop
 add-i c = search needs
@@ -107,15 +117,10 @@ loop-less c = search needs
 
 loop-again : tie.Need-loop-again Inv-loop μ-loop
 loop-again c =
-    let x = c .before .before .before .before .before .before .before .before .before .before .before .before .before .before .before .before .before .before in
-    let a = x .before .args in
-    let i = x .loop .i in (
-      omega (arith, c .before .before .before .before .before .before .before .before .before .before .before .before .before .before .before .before .before .loop-test .taken),
-      x .loop .inv .1
-          ∙ all-yes (sameServer (a .t1) (a .t2)) i
-          (slots-decide (a .t1) (a .t2) i (c .before .before .before .before .before .before .before .before .before .before .before .before .before .before .if1 .left) (eqb-true _ _ (not-false _ (c .before .before .before .before .before .before .before .before .before .before .before .if2 .left)))
-          (sym (c .before .before .before .before .before .before .before .before .same-counts .ensures) ∙ not-false _ (c .before .before .before .before .before .before .before .if3 .left)) (c .before .before .smaller .ensures)
-          (sym (not-false _ (c .if4 .left)) ∙ c .before .same-slots .ensures)),
+    let x = head (c .before) in
+    let a = x .before .args in (
+      omega (arith, in-turn (c .before)),
+      x .loop .inv .1 ∙ all-yes (sameServer (a .t1) (a .t2)) (x .loop .i) (decided (c .before) ∙ not-false _ (c .if4 .left)),
     )
 
 returns-4 : tie.Need-returns-4 Inv-loop μ-loop

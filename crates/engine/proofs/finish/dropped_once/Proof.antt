@@ -74,8 +74,9 @@ mul-moved-down c = search needs
 
 moved-down-requires : tie.Need-moved-down-requires Inv-loop μ-loop
 moved-down-requires c κs =
-    let x = c .before .before .before .before .before .before .before .before .before .before .before .before in
-    omega (arith, x .loop .inv .0, c .before .before .before .before .before .before .before .before .before .before .before .loop-test .taken, x .before .smaller .ensures, leb-true (c .before .before .before .before .before .before .before .before .before .wide .result) window (c .before .before .before .before .before .if3 .taken))
+    let t = c .before .before .before .before .before in
+    let x = t .before .before .before .before .before .before .before in
+    omega (arith, x .loop .inv .0, t .before .before .before .before .before .before .loop-test .taken, x .before .smaller .ensures, leb-true (t .before .before .before .before .wide .result) window (t .if3 .taken))
 
 next-key-requires : tie.Need-next-key-requires Inv-loop μ-loop
 next-key-requires c κs = search needs

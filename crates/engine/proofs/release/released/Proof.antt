@@ -74,9 +74,9 @@ mul-u c = search needs
 
 slot-free : (c : tie.After-pushed Inv-loop μ-loop) → c .before .before .before .before .before .before .wide .result < window
 slot-free c =
-    let x = c .before .before .before .before .before .before .before .before .before .before .before .before in
-    room (serverAt (x .loop .u) (x .loop .i)) (c .before .before .before .before .before .before .wide .result)
-    (sym (c .before .before .before .before .before .has-room .ensures) ∙ c .before .before .before .before .if2 .taken) .slot
+    let t = c .before .before .before .before in
+    let x = t .before .before .before .before .before .before .before .before in
+    room (serverAt (x .loop .u) (x .loop .i)) (t .before .before .wide .result) (sym (t .before .has-room .ensures) ∙ t .if2 .taken) .slot
 
 add-u : tie.Need-add-u Inv-loop μ-loop
 add-u c = let h = slot-free c in omega arith
@@ -86,9 +86,9 @@ mul-u-2 c = let h = slot-free c in omega arith
 
 element-write-u : tie.Need-element-write-u Inv-loop μ-loop
 element-write-u c =
-    let x = c .before .before .before .before .before .before .before .before .before .before .before .before in
+    let t = c .before .before .before .before .before .before .before .before .before .before .before in
     let h = slot-free c in
-    omega (arith, x .loop .inv .0, c .before .before .before .before .before .before .before .before .before .before .before .loop-test .taken, x .before .smaller .ensures)
+    omega (arith, t .before .loop .inv .0, t .loop-test .taken, t .before .before .smaller .ensures)
 
 mul-first-key : tie.Need-mul-first-key Inv-loop μ-loop
 mul-first-key c = search needs
@@ -112,10 +112,7 @@ element-write-u-2 : tie.Need-element-write-u-2 Inv-loop μ-loop
 element-write-u-2 c = search needs
 
 add-u-2 : tie.Need-add-u-2 Inv-loop μ-loop
-add-u-2 c =
-    let x = c .before .before .before .before .before .before .before .before .before .before .before .before .before .before .before in
-    let r = room (serverAt (x .loop .u) (x .loop .i)) (c .before .before .before .before .before .before .before .before .before .wide .result) (sym (c .before .before .before .before .before .before .before .before .has-room .ensures) ∙ c .before .before .before .before .before .before .before .if2 .taken) in
-    omega (arith, c .before .before .before .before .before .before .before .before .before .wide .ensures)
+add-u-2 c = let h = slot-free (c .before .before .before) in omega (arith, c .before .before .before .before .before .before .before .before .before .wide .ensures)
 
 element-write-u-3 : tie.Need-element-write-u-3 Inv-loop μ-loop
 element-write-u-3 c = search needs

@@ -1,8 +1,7 @@
 -- `unset_below` meets its contract: k ones are below the width, and those of the mask among them are at most all of them.
-use mathlib.Core.Path.{ap}
-use Prim.Native.Nat.{ℕ, _-_, _^_}
+use Prim.Native.Nat.{_-_, _^_}
 use native.Mathlib.Omega.{arith}
-use lib.Bits.{bitAnd, and-le-r}
+use lib.Bits.{and-le-r}
 use lib.Pow.{pow-pos}
 use borrow.Author.Needs.{needs}
 use Rattle.numbers.proofs.MaskLaws.{shifted-one}

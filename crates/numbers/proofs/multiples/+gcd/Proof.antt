@@ -1,5 +1,5 @@
 -- `gcd` meets its contract: each call takes Euclid's step, and the second number falls.
-use mathlib.Core.Path.{_≡_, sym, _∙_, ap, subst}
+use mathlib.Core.Path.{sym, _∙_, ap, subst}
 use Prim.Native.Nat.{ℕ, _<_, _%_}
 use native.Mathlib.Nat.{pos-of-ne-zero, mod-lt}
 use borrow.Fn.Kinds.{In}

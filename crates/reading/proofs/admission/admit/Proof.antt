@@ -4,9 +4,7 @@ use Prim.Native.Nat.{_-_}
 use denote.Ref.{now}
 use borrow.Author.Needs.{needs}
 use Rattle.rules.proofs.ReadWellFormed.{read-formed}
-use Rattle.rules.specs.Limits as Limits
 use Rattle.rules.specs.Reading.{readOf, admissionOf}
-use Rattle.rules.specs.Table as Rules
 use Rattle.reading.specs.Admission.{admittedMemory}
 use Rattle.reading.specs.Memory.{memoryOf}
 use Rattle.reading.specs.Outcomes.{placeOf, endOf}
@@ -35,7 +33,8 @@ unfolding admissionOf
 returns c =
     let s = now (c .before .before .before .before .before .before .args .s) in
     let got = c .before .before .before .before .table-read .result in
-    rw (image-refused memoryOf (readOf s) _ (sym (ap (endOf s (got .table)) (c .before .before .end .given .1)) ∙ c .before .before .before .before .table-read .ensures)) (c .refused .ensures)
+    rw (image-refused memoryOf (readOf s) _ (sym (ap (endOf s (got .table)) (c .before .before .end .given .1))
+    ∙ c .before .before .before .before .table-read .ensures)) (c .refused .ensures)
 
 returns-2 : tie.Need-returns-2
 unfolding admissionOf
@@ -43,7 +42,8 @@ returns-2 c =
     let s = now (c .before .before .before .before .before .before .args .s) in
     let got = c .before .before .before .before .table-read .result in
     let Q = placeOf s (c .before .before .enum-told .given .0 .0) in
-    let (T, e, f) = image-done memoryOf (readOf s) (got .table) Q (sym (ap (endOf s (got .table)) (c .before .before .enum-told .given .1)) ∙ c .before .before .before .before .table-read .ensures) in
+    let (T, e, f) = image-done memoryOf (readOf s) (got .table) Q (sym (ap (endOf s (got .table)) (c .before .before .enum-told .given .1))
+    ∙ c .before .before .before .before .table-read .ensures) in
     rw e (c .admit-table .ensures ∙ ap admittedMemory f ∙ admitted-memory T (read-formed s T Q e))
 
 pub admit-spec : {M : Type 1} → statement M

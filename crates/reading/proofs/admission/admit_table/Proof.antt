@@ -2,8 +2,6 @@
 use mathlib.Core.Path.{sym, _∙_}
 use Prim.Native.Nat.{_-_}
 use borrow.Author.Needs.{needs}
-use Rattle.rules.specs.Limits as Limits
-use Rattle.rules.specs.Table as Rules
 use Rattle.reading.proofs.admission.admit_table.Statement.{statement}
 use Rattle.reading.proofs.admission.admit_table.Tie as tie
 

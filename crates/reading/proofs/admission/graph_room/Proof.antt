@@ -5,7 +5,6 @@ use Prim.Native.Nat.{ℕ, _+_, _-_, _*_}
 use native.Mathlib.Omega.{arith}
 use lib.ListN.{getD}
 use borrow.Author.Needs.{needs}
-use Rattle.rules.specs.Limits as Limits
 use Rattle.rules.specs.Lists.{sum, tab}
 use Rattle.rules.specs.Table as Rules
 use Rattle.table.specs.Fresh.{noNode}
@@ -47,7 +46,8 @@ returns c =
     let need : Rules.Node → ℕ = λ (y : Rules.Node). y .budget * a .times in
     let at : ℕ → Rules.Node = λ (i : ℕ). nodeOf (getD (a .t .node) i noNode) in
     let others = tab at (x .first + st .k + 1) (x .nodes - (st .k + 1)) in
-    let e = sym (c .enum-told .given .1) ∙ c .before .before .room-after .ensures ∙ ap (λ (y : Node). roomAfter (st .left) (y .budget * a .times)) (c .before .before .before .node-of .ensures) in
+    let e = sym (c .enum-told .given .1) ∙ c .before .before .room-after .ensures
+    ∙ ap (λ (y : Node). roomAfter (st .left) (y .budget * a .times)) (c .before .before .before .node-of .ensures) in
     sym (st .inv ∙ ap (λ (l : List Rules.Node). roomAfter (st .left) (sum need l)) (tab-next at (x .first + st .k) (x .nodes) (st .k) (c .before .before .before .before .if1 .taken))
     ∙ over-more (st .left) (need (at (x .first + st .k))) (sum need others) e)
 
@@ -68,7 +68,8 @@ loop-again c =
     let need : Rules.Node → ℕ = λ (y : Rules.Node). y .budget * a .times in
     let at : ℕ → Rules.Node = λ (i : ℕ). nodeOf (getD (a .t .node) i noNode) in
     let others = tab at (x .first + st .k + 1) (x .nodes - (st .k + 1)) in
-    let e = sym (c .before .m .given .1) ∙ c .before .before .before .room-after .ensures ∙ ap (λ (y : Node). roomAfter (st .left) (y .budget * a .times)) (c .before .before .before .before .node-of .ensures) in
+    let e = sym (c .before .m .given .1) ∙ c .before .before .before .room-after .ensures
+    ∙ ap (λ (y : Node). roomAfter (st .left) (y .budget * a .times)) (c .before .before .before .before .node-of .ensures) in
     let m = c .before .m .given .0 .0 in
     let i : x .first + st .k + 1 ≡ x .first + (st .k + 1) = omega arith in
     st .inv ∙ ap (λ (l : List Rules.Node). roomAfter (st .left) (sum need l)) (tab-next at (x .first + st .k) (x .nodes) (st .k) (c .before .before .before .before .before .if1 .taken))

@@ -45,8 +45,10 @@ returns c =
     let most = Limits.hyperperiod .to in
     let at : ℕ → Rules.Graph = λ (g : ℕ). graphOf (t .node) (getD (t .graph) g noGraph) in
     let others = tab at (st .g + 1) (t .graphs - (st .g + 1)) in
-    let e = sym (c .enum-told .given .1) ∙ c .before .before .lcm-within .ensures ∙ ap (λ (x : Graph). multipleWithin most (Rules.lcm (st .h) (x .period))) (c .before .before .before .graph-of .ensures) in
-    sym (st .inv ∙ ap (hyperperiodWithin most (st .h)) (tab-next at (st .g) (t .graphs) (st .g) (c .before .before .before .before .if1 .taken)) ∙ hyperperiod-past most (st .h) (at (st .g)) others e)
+    let e = sym (c .enum-told .given .1) ∙ c .before .before .lcm-within .ensures
+    ∙ ap (λ (x : Graph). multipleWithin most (Rules.lcm (st .h) (x .period))) (c .before .before .before .graph-of .ensures) in
+    sym (st .inv ∙ ap (hyperperiodWithin most (st .h)) (tab-next at (st .g) (t .graphs) (st .g) (c .before .before .before .before .if1 .taken))
+    ∙ hyperperiod-past most (st .h) (at (st .g)) others e)
 
 enum-known-m : tie.Need-enum-known-m Inv-loop μ-loop
 enum-known-m c = search needs
@@ -64,8 +66,10 @@ loop-again c =
     let most = Limits.hyperperiod .to in
     let at : ℕ → Rules.Graph = λ (g : ℕ). graphOf (t .node) (getD (t .graph) g noGraph) in
     let others = tab at (st .g + 1) (t .graphs - (st .g + 1)) in
-    let e = sym (c .before .m .given .1) ∙ c .before .before .before .lcm-within .ensures ∙ ap (λ (x : Graph). multipleWithin most (Rules.lcm (st .h) (x .period))) (c .before .before .before .before .graph-of .ensures) in
-    st .inv ∙ ap (hyperperiodWithin most (st .h)) (tab-next at (st .g) (t .graphs) (st .g) (c .before .before .before .before .before .if1 .taken)) ∙ hyperperiod-on most (st .h) (at (st .g)) others (c .before .m .given .0 .0) e
+    let e = sym (c .before .m .given .1) ∙ c .before .before .before .lcm-within .ensures
+    ∙ ap (λ (x : Graph). multipleWithin most (Rules.lcm (st .h) (x .period))) (c .before .before .before .before .graph-of .ensures) in
+    st .inv ∙ ap (hyperperiodWithin most (st .h)) (tab-next at (st .g) (t .graphs) (st .g) (c .before .before .before .before .before .if1 .taken))
+    ∙ hyperperiod-on most (st .h) (at (st .g)) others (c .before .m .given .0 .0) e
 
 returns-2 : tie.Need-returns-2 Inv-loop μ-loop
 returns-2 c =

@@ -5,7 +5,6 @@ use Prim.Native.Nat.{ℕ, _+_, _-_, _*_, _/_}
 use native.Mathlib.Omega.{arith}
 use lib.ListN.{getD}
 use borrow.Author.Needs.{needs}
-use Rattle.rules.specs.Limits as Limits
 use Rattle.rules.specs.Lists.{sum, tab}
 use Rattle.rules.specs.Table as Rules
 use Rattle.numbers.proofs.Products.{product-fits}
@@ -56,7 +55,8 @@ returns c =
     let need : Rules.Graph → ℕ = λ (G : Rules.Graph). graphLoad (a .h / G .period) G in
     let at : ℕ → Rules.Graph = λ (g : ℕ). graphOf (t .node) (getD (t .graph) g noGraph) in
     let others = tab at (st .g + 1) (t .graphs - (st .g + 1)) in
-    let e = sym (c .enum-told .given .1) ∙ c .before .before .graph-room .ensures ∙ ap (λ (n : ℕ). roomAfter (st .left) (graphLoad n (graphOf (t .node) (c .before .before .before .before .graph-of .result)))) (c .before .before .before .times-in .ensures)
+    let e = sym (c .enum-told .given .1) ∙ c .before .before .graph-room .ensures
+    ∙ ap (λ (n : ℕ). roomAfter (st .left) (graphLoad n (graphOf (t .node) (c .before .before .before .before .graph-of .result)))) (c .before .before .before .times-in .ensures)
     ∙ ap (λ (x : Graph). roomAfter (st .left) (graphLoad (a .h / x .period) (graphOf (t .node) x))) (c .before .before .before .before .graph-of .ensures) in
     sym (st .inv ∙ ap (λ (l : List Rules.Graph). roomAfter (st .left) (sum need l)) (tab-next at (st .g) (t .graphs) (st .g) (c .before .before .before .before .before .if1 .taken))
     ∙ over-more (st .left) (need (at (st .g))) (sum need others) e)
@@ -78,7 +78,8 @@ loop-again c =
     let need : Rules.Graph → ℕ = λ (G : Rules.Graph). graphLoad (a .h / G .period) G in
     let at : ℕ → Rules.Graph = λ (g : ℕ). graphOf (t .node) (getD (t .graph) g noGraph) in
     let others = tab at (st .g + 1) (t .graphs - (st .g + 1)) in
-    let e = sym (c .before .m .given .1) ∙ c .before .before .before .graph-room .ensures ∙ ap (λ (n : ℕ). roomAfter (st .left) (graphLoad n (graphOf (t .node) (c .before .before .before .before .before .graph-of .result)))) (c .before .before .before .before .times-in .ensures)
+    let e = sym (c .before .m .given .1) ∙ c .before .before .before .graph-room .ensures
+    ∙ ap (λ (n : ℕ). roomAfter (st .left) (graphLoad n (graphOf (t .node) (c .before .before .before .before .before .graph-of .result)))) (c .before .before .before .before .times-in .ensures)
     ∙ ap (λ (x : Graph). roomAfter (st .left) (graphLoad (a .h / x .period) (graphOf (t .node) x))) (c .before .before .before .before .before .graph-of .ensures) in
     st .inv ∙ ap (λ (l : List Rules.Graph). roomAfter (st .left) (sum need l)) (tab-next at (st .g) (t .graphs) (st .g) (c .before .before .before .before .before .before .if1 .taken))
     ∙ left-more (st .left) (need (at (st .g))) (sum need others) (c .before .m .given .0 .0) e

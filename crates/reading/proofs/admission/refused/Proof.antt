@@ -1,8 +1,6 @@
 -- `refused` meets its contract.
 use Prim.Native.Nat.{_-_}
 use borrow.Author.Needs.{needs}
-use Rattle.rules.specs.Limits as Limits
-use Rattle.rules.specs.Table as Rules
 use Rattle.reading.proofs.admission.refused.Statement.{statement}
 use Rattle.reading.proofs.admission.refused.Tie as tie
 

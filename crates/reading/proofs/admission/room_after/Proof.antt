@@ -1,8 +1,7 @@
 -- `room_after` meets its contract: the product fits 64 bits.
 use Prim.Native.Nat.{_-_, _*_}
+use native.Mathlib.Omega.{arith}
 use borrow.Author.Tests.{le-leb, lt-leb}
-use Rattle.rules.specs.Limits as Limits
-use Rattle.rules.specs.Table as Rules
 use Rattle.numbers.proofs.Products.{product-fits}
 use Rattle.reading.proofs.admission.room_after.Statement.{statement}
 use Rattle.reading.proofs.admission.room_after.Tie as tie
@@ -11,10 +10,10 @@ mul-need : tie.Need-mul-need
 mul-need c = record { fits = product-fits (c .fits .budget .fits) (c .fits .times .fits) }
 
 returns : tie.Need-returns
-returns c = let a = c .before .args in rw (le-leb (a .budget * a .times) (a .room) (c .if1 .taken))
+returns c = let a = c .before .args in rw (le-leb (a .budget * a .times) (a .room) (omega arith))
 
 returns-2 : tie.Need-returns-2
-returns-2 c = let a = c .before .args in rw (lt-leb (a .budget * a .times) (a .room) (c .if1 .left))
+returns-2 c = let a = c .before .args in rw (lt-leb (a .budget * a .times) (a .room) (omega arith))
 
 pub room-after-spec : {M : Type 1} → statement M
 room-after-spec = tie.close (tie.spec mul-need returns returns-2)

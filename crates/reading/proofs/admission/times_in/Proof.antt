@@ -2,8 +2,6 @@
 use Prim.Native.Nat.{_-_}
 use native.Mathlib.Nat.{div-zero}
 use borrow.Author.Needs.{needs}
-use Rattle.rules.specs.Limits as Limits
-use Rattle.rules.specs.Table as Rules
 use Rattle.reading.proofs.admission.times_in.Statement.{statement}
 use Rattle.reading.proofs.admission.times_in.Tie as tie
 

@@ -3,7 +3,6 @@ use mathlib.Core.Path.{sym, _∙_, ap}
 use Prim.Native.Nat.{_-_}
 use denote.Ref.{now}
 use borrow.Author.Needs.{needs}
-use Rattle.rules.specs.Keys as Keys
 use Rattle.reading.specs.Positions.{foundOf}
 use Rattle.reading.proofs.lines.closed_at.Statement.{statement}
 use Rattle.reading.proofs.lines.closed_at.Tie as tie
@@ -11,33 +10,52 @@ use Rattle.reading.proofs.lines.closed_at.Tie as tie
 byte-at-requires : tie.Need-byte-at-requires
 byte-at-requires c κs = search needs
 
-enum-known-p : tie.Need-enum-known-p
-enum-known-p c = search needs
+enum-known-end : tie.Need-enum-known-end
+enum-known-end c = search needs
 
-enum-known-p-2 : tie.Need-enum-known-p-2
-enum-known-p-2 c = search needs
+enum-known-end-2 : tie.Need-enum-known-end-2
+enum-known-end-2 c = search needs
+
+enum-known-end-3 : tie.Need-enum-known-end-3
+enum-known-end-3 c = search needs
+
+enum-told : tie.Need-enum-told
+enum-told c = search needs
 
 returns : tie.Need-returns
 returns c =
-    let a = c .before .before .before .before .before .args in
-    let s = now (a .s) in
-    let e = sym (ap (foundOf s) (c .before .p .given .1)) ∙ c .before .before .before .byte-at .ensures in
+    let s = now (c .before .before .before .before .before .before .args .s) in
+    let e = sym (ap (foundOf s) (c .before .end .given .1)) ∙ c .before .before .before .before .byte-at .ensures in
     rw (← e)
 
 returns-2 : tie.Need-returns-2
 returns-2 c =
-    let a = c .before .before .before .before .before .before .args in
-    let s = now (a .s) in
-    let e = sym (ap (foundOf s) (c .before .before .p2 .given .1)) ∙ c .before .before .before .before .byte-at .ensures in
-    rw (← e, c .if1 .taken)
+    let s = now (c .before .before .before .before .before .before .args .s) in
+    let e = sym (ap (foundOf s) (c .before .end2 .given .1)) ∙ c .before .before .before .before .byte-at .ensures in
+    rw (← e, c .before .before .before .if1 .taken)
 
 returns-3 : tie.Need-returns-3
 returns-3 c =
-    let a = c .before .before .before .before .before .before .args in
-    let s = now (a .s) in
-    let e = sym (ap (foundOf s) (c .before .before .p2 .given .1)) ∙ c .before .before .before .before .byte-at .ensures in
-    rw (← e, c .if1 .left)
+    let s = now (c .before .before .before .before .before .before .args .s) in
+    let e = sym (ap (foundOf s) (c .before .end3 .given .1)) ∙ c .before .before .before .before .byte-at .ensures in
+    rw (← e)
+
+returns-4 : tie.Need-returns-4
+returns-4 c =
+    let s = now (c .before .before .before .before .before .args .s) in
+    let e = sym (ap (foundOf s) (c .enum-told .given .1)) ∙ c .before .before .before .byte-at .ensures in
+    rw (← e, c .before .before .if1 .left)
 
 pub closed-at-spec : {M : Type 1} → statement M
 closed-at-spec =
-    tie.close (tie.spec byte-at-requires enum-known-p enum-known-p-2 returns returns-2 returns-3)
+    tie.close
+    (tie.spec
+    byte-at-requires
+    enum-known-end
+    enum-known-end-2
+    enum-known-end-3
+    enum-told
+    returns
+    returns-2
+    returns-3
+    returns-4)

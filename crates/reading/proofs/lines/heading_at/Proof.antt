@@ -5,7 +5,6 @@ use Prim.Native.Nat.{ℕ, _-_, _≤_}
 use lib.ListN.{length, take, drop}
 use denote.Ref.{now}
 use borrow.Author.Needs.{needs}
-use Rattle.rules.specs.Keys as Keys
 use Rattle.rules.specs.Spelling.{text}
 use Rattle.table.specs.Keys.{nameLength}
 use Rattle.table.specs.declared.Key.{Key}
@@ -34,7 +33,8 @@ returns c =
     let a = c .before .before .before .before .before .before .before .args in
     let s = now (a .s) in
     let e = sym (ap (foundOf s) (c .before .p .given .1)) ∙ c .before .before .before .text-at .ensures
-    ∙ ap (λ (K : Key). text (take (K .length) (K .name)) (drop (a .at) s)) (c .before .before .before .before .before .key .ensures) ∙ ap (λ (n : List ℕ). text n (drop (a .at) s)) (coded-name (a .k)) in
+    ∙ ap (λ (K : Key). text (take (K .length) (K .name)) (drop (a .at) s)) (c .before .before .before .before .before .key .ensures)
+    ∙ ap (λ (n : List ℕ). text n (drop (a .at) s)) (coded-name (a .k)) in
     rw (← e)
 
 returns-2 : tie.Need-returns-2
@@ -42,7 +42,8 @@ returns-2 c =
     let a = c .before .before .before .before .before .before .before .before .args in
     let s = now (a .s) in
     let e = sym (ap (foundOf s) (c .before .before .p2 .given .1)) ∙ c .before .before .before .before .text-at .ensures
-    ∙ ap (λ (K : Key). text (take (K .length) (K .name)) (drop (a .at) s)) (c .before .before .before .before .before .before .key .ensures) ∙ ap (λ (n : List ℕ). text n (drop (a .at) s)) (coded-name (a .k)) in
+    ∙ ap (λ (K : Key). text (take (K .length) (K .name)) (drop (a .at) s)) (c .before .before .before .before .before .before .key .ensures)
+    ∙ ap (λ (n : List ℕ). text n (drop (a .at) s)) (coded-name (a .k)) in
     rw (← e) (c .byte-at .ensures)
 
 pub heading-at-spec : {M : Type 1} → statement M

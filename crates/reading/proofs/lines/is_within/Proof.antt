@@ -4,7 +4,6 @@ use Prim.Native.Nat.{_-_, _<_, _≤_}
 use lib.Dec.{leb}
 use borrow.Author.Needs.{needs}
 use borrow.Author.Tests.{le-leb, lt-leb}
-use Rattle.rules.specs.Keys as Keys
 use Rattle.rules.specs.Keys.{keyAt}
 use Rattle.rules.specs.WellFormed.{within}
 use Rattle.table.specs.declared.Key.{Key}

@@ -4,7 +4,6 @@ use Prim.Native.Nat.{_-_}
 use lib.ListN.{drop}
 use denote.Ref.{now}
 use borrow.Author.Needs.{needs}
-use Rattle.rules.specs.Keys as Keys
 use Rattle.rules.specs.Spelling.{list}
 use Rattle.rules.specs.WellFormed.{orderly}
 use Rattle.reading.specs.Lines.{judgeBy, same, always, closed}
@@ -31,7 +30,8 @@ returns : tie.Need-returns
 returns c =
     let a = c .before .before .before .before .before .args in
     let s = now (a .s) in
-    rw (image-wrong (listing (a .own)) (list (drop (a .at) s)) (drop (c .before .p .given .0 .0) s) (sym (ap (listedOf s) (c .before .p .given .1)) ∙ c .before .before .before .list-at .ensures))
+    rw (image-wrong (listing (a .own)) (list (drop (a .at) s)) (drop (c .before .p .given .0 .0) s) (sym (ap (listedOf s) (c .before .p .given .1))
+    ∙ c .before .before .before .list-at .ensures))
 
 returns-2 : tie.Need-returns-2
 returns-2 c =

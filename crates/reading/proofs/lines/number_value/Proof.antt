@@ -5,7 +5,6 @@ use Prim.Native.Nat.{ℕ, _-_}
 use lib.ListN.{drop}
 use denote.Ref.{now}
 use borrow.Author.Needs.{needs}
-use Rattle.rules.specs.Keys as Keys
 use Rattle.rules.specs.Keys.{keyAt}
 use Rattle.rules.specs.Spelling.{number}
 use Rattle.rules.specs.WellFormed.{within}
@@ -36,7 +35,8 @@ returns : tie.Need-returns
 returns c =
     let a = c .before .before .before .before .before .args in
     let s = now (a .s) in
-    rw (image-wrong kept (number (drop (a .at) s)) (drop (c .before .p .given .0 .0) s) (sym (ap (scannedOf s) (c .before .p .given .1)) ∙ c .before .before .before .number-at .ensures))
+    rw (image-wrong kept (number (drop (a .at) s)) (drop (c .before .p .given .0 .0) s) (sym (ap (scannedOf s) (c .before .p .given .1))
+    ∙ c .before .before .before .number-at .ensures))
 
 returns-2 : tie.Need-returns-2
 returns-2 c =

@@ -4,8 +4,6 @@ use Prim.Native.Nat.{_-_}
 use native.Mathlib.Omega.{arith}
 use borrow.Author.Needs.{needs}
 use borrow.Author.Tests.{eq-eqb, ne-eqb}
-use Rattle.rules.specs.Keys as Keys
-use Rattle.rules.specs.Limits as Limits
 use Rattle.numbers.specs.Masks.{unsetBelow}
 use Rattle.reading.specs.Outcomes.{taken}
 use Rattle.reading.proofs.tables.graph_ended.Statement.{statement}

@@ -6,8 +6,6 @@ use denote.Ref.{now}
 use borrow.Author.Needs.{needs}
 use Rattle.rules.proofs.Outcomes.{told}
 use Rattle.rules.proofs.ReadWellFormed.{nodes-holds}
-use Rattle.rules.specs.Keys as Keys
-use Rattle.rules.specs.Limits as Limits
 use Rattle.rules.specs.Reading.{node, nodesFrom}
 use Rattle.reading.specs.Memory.{withGraph}
 use Rattle.reading.specs.Outcomes.{mapOutcome, placeOf, endOf, Taken, taken, tableReadOf}
@@ -53,7 +51,8 @@ graph-ended-requires c κs =
     let got = c .before .before .before .before .nodes-at .result in
     let taking : Taken = record { nodes = got .nodes; named = got .named } in
     let Q = placeOf s (c .before .end2 .given .0 .0) in
-    let (xs, e, f) = image-done (taken (t .node) (t .nodes) 0) (nodesFrom 1 (h .third) P) taking Q (sym (ap (endOf s taking) (c .before .end2 .given .1)) ∙ c .before .before .before .before .nodes-at .ensures) in
+    let (xs, e, f) = image-done (taken (t .node) (t .nodes) 0) (nodesFrom 1 (h .third) P) taking Q (sym (ap (endOf s taking) (c .before .end2 .given .1))
+    ∙ c .before .before .before .before .nodes-at .ensures) in
     let w = told _ e (nodes-holds 1 (h .third) P) in
     (omega arith, omega arith, omega arith, omega arith, omega (arith, w .2))
 
@@ -68,7 +67,8 @@ returns-2 c =
     let taking : Taken = record { nodes = got .nodes; named = got .named } in
     sym (ap (mapOutcome (withGraph t))
     (nodes-refused (t .nodes) (h .first) (h .second) (h .third) (a .place .line - 1) P (omega arith) _
-    (image-refused (taken (t .node) (t .nodes) 0) (nodesFrom 1 (h .third) P) _ (sym (ap (endOf s taking) (c .before .end .given .1)) ∙ c .before .before .before .before .nodes-at .ensures))))
+    (image-refused (taken (t .node) (t .nodes) 0) (nodesFrom 1 (h .third) P) _ (sym (ap (endOf s taking) (c .before .end .given .1))
+    ∙ c .before .before .before .before .nodes-at .ensures))))
 
 returns-3 : tie.Need-returns-3
 returns-3 c =
@@ -81,7 +81,8 @@ returns-3 c =
     let taking : Taken = record { nodes = got .nodes; named = got .named } in
     let q = c .before .before .end2 .given .0 .0 in
     let Q = placeOf s q in
-    let (xs, e, f) = image-done (taken (t .node) (t .nodes) 0) (nodesFrom 1 (h .third) P) taking Q (sym (ap (endOf s taking) (c .before .before .end2 .given .1)) ∙ c .before .before .before .before .before .nodes-at .ensures) in
+    let (xs, e, f) = image-done (taken (t .node) (t .nodes) 0) (nodesFrom 1 (h .third) P) taking Q (sym (ap (endOf s taking) (c .before .before .end2 .given .1))
+    ∙ c .before .before .before .before .before .nodes-at .ensures) in
     let w = told _ e (nodes-holds 1 (h .third) P) in
     ap (tableReadOf s) (c .graph-ended .ensures) ∙ ended-graph t h xs taking (w .1) f (omega arith) (w .0) s q
     ∙ sym (ap (mapOutcome (withGraph t)) (nodes-done (t .nodes) (h .first) (h .second) (h .third) (a .place .line - 1) P (omega arith) xs Q e))

@@ -8,7 +8,6 @@ use borrow.Author.Needs.{needs}
 use Rattle.rules.proofs.Formed.{within-limits, graph-formed}
 use Rattle.rules.proofs.Outcomes.{told}
 use Rattle.rules.proofs.ReadWellFormed.{graph-holds}
-use Rattle.rules.specs.Keys as Keys
 use Rattle.rules.specs.Limits as Limits
 use Rattle.rules.specs.Reading.{graph, graphsFrom, table}
 use Rattle.table.specs.declared.Table.{Table as Memory}
@@ -66,7 +65,8 @@ loop-again c =
     let P = placeOf s (st .p) in
     let got = c .before .before .before .before .graph-at .result in
     let Q = placeOf s (c .before .before .end2 .given .0 .0) in
-    let (G, e, f) = image-done (withGraph u) (graph (u .nodes) P) (got .table) Q (sym (ap (endOf s (got .table)) (c .before .before .end2 .given .1)) ∙ c .before .before .before .before .graph-at .ensures) in
+    let (G, e, f) = image-done (withGraph u) (graph (u .nodes) P) (got .table) Q (sym (ap (endOf s (got .table)) (c .before .before .end2 .given .1))
+    ∙ c .before .before .before .before .graph-at .ensures) in
     let w = told _ e (graph-holds (u .nodes) P) in
     let few = within-limits Limits.nodes (length (G .nodes)) (graph-formed G (w .0) .few) .1 in
     let k = ap (λ (m : Memory). m .graphs) f in

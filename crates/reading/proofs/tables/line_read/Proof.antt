@@ -4,8 +4,6 @@ use Prim.Native.Nat.{_-_}
 use lib.ListN.{drop}
 use denote.Ref.{now}
 use borrow.Author.Needs.{needs}
-use Rattle.rules.specs.Keys as Keys
-use Rattle.rules.specs.Limits as Limits
 use Rattle.reading.specs.Lines.{judgedOf}
 use Rattle.reading.specs.Outcomes.{placeOf, taken}
 use Rattle.reading.proofs.Runs.{line-passed, line-misspelled, after-unfair, number-unfair}

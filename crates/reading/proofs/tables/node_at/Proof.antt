@@ -3,8 +3,6 @@ use mathlib.Core.Path.{sym, _∙_, ap}
 use Prim.Native.Nat.{_-_}
 use denote.Ref.{now}
 use borrow.Author.Needs.{needs}
-use Rattle.rules.specs.Keys as Keys
-use Rattle.rules.specs.Limits as Limits
 use Rattle.reading.specs.Outcomes.{mapOutcome, placeOf, threeReadOf}
 use Rattle.reading.proofs.Runs.{rowOf, node-three}
 use Rattle.reading.proofs.tables.node_at.Statement.{statement}

@@ -8,8 +8,6 @@ use denote.Ref.{now}
 use borrow.Author.Needs.{needs}
 use Rattle.rules.proofs.Outcomes.{told}
 use Rattle.rules.proofs.ReadWellFormed.{node-holds}
-use Rattle.rules.specs.Keys as Keys
-use Rattle.rules.specs.Limits as Limits
 use Rattle.rules.specs.Reading.{node, nodesFrom}
 use Rattle.table.specs.declared.Node.{Node as Row}
 use Rattle.reading.specs.Memory.{codedNode}

@@ -5,8 +5,6 @@ use native.Mathlib.Omega.{arith}
 use denote.Ref.{now}
 use borrow.Author.Needs.{needs}
 use Rattle.rules.proofs.Outcomes.{told}
-use Rattle.rules.specs.Keys as Keys
-use Rattle.rules.specs.Limits as Limits
 use Rattle.rules.specs.Reading.{done}
 use Rattle.reading.specs.Outcomes.{placeOf, codedLine, lineReadOf, threeLines}
 use Rattle.reading.proofs.Runs.{coded-holds}
@@ -52,7 +50,8 @@ line-read-requires-3 c κs =
     let P = placeOf s (a .place) in
     let first = c .before .before .before .before .before .first .given in
     let pfirst = placeOf s (first .0 .1 .0) in
-    let efirst : done (first .0 .0) pfirst ≡ codedLine (a .k) (a .own) P = sym (ap (lineReadOf s) (first .1)) ∙ c .before .before .before .before .before .before .before .line-read .ensures in
+    let efirst : done (first .0 .0) pfirst ≡ codedLine (a .k) (a .own) P = sym (ap (lineReadOf s) (first .1))
+    ∙ c .before .before .before .before .before .before .before .line-read .ensures in
     let lfirst = told _ (sym efirst) (coded-holds (a .k) (a .own) P) in
     let second = c .before .second .given in
     let psecond = placeOf s (second .0 .1 .0) in
@@ -83,7 +82,8 @@ returns-2 c =
     let P = placeOf s (a .place) in
     let first = c .before .before .before .before .before .first .given in
     let pfirst = placeOf s (first .0 .1 .0) in
-    let efirst : done (first .0 .0) pfirst ≡ codedLine (a .k) (a .own) P = sym (ap (lineReadOf s) (first .1)) ∙ c .before .before .before .before .before .before .before .line-read .ensures in
+    let efirst : done (first .0 .0) pfirst ≡ codedLine (a .k) (a .own) P = sym (ap (lineReadOf s) (first .1))
+    ∙ c .before .before .before .before .before .before .before .line-read .ensures in
     let e = sym (ap (lineReadOf s) (c .before .f2 .given .1)) ∙ c .before .before .before .line-read2 .ensures in
     rw (← efirst, ← e)
 
@@ -95,10 +95,12 @@ returns-3 c =
     let P = placeOf s (a .place) in
     let first = c .before .before .before .before .before .before .before .before .before .first .given in
     let pfirst = placeOf s (first .0 .1 .0) in
-    let efirst : done (first .0 .0) pfirst ≡ codedLine (a .k) (a .own) P = sym (ap (lineReadOf s) (first .1)) ∙ c .before .before .before .before .before .before .before .before .before .before .before .line-read .ensures in
+    let efirst : done (first .0 .0) pfirst ≡ codedLine (a .k) (a .own) P = sym (ap (lineReadOf s) (first .1))
+    ∙ c .before .before .before .before .before .before .before .before .before .before .before .line-read .ensures in
     let second = c .before .before .before .before .before .second .given in
     let psecond = placeOf s (second .0 .1 .0) in
-    let esecond : done (second .0 .0) psecond ≡ codedLine (a .k + 1) (a .own) pfirst = sym (ap (lineReadOf s) (second .1)) ∙ c .before .before .before .before .before .before .before .line-read2 .ensures in
+    let esecond : done (second .0 .0) psecond ≡ codedLine (a .k + 1) (a .own) pfirst = sym (ap (lineReadOf s) (second .1))
+    ∙ c .before .before .before .before .before .before .before .line-read2 .ensures in
     let e = sym (ap (lineReadOf s) (c .before .f3 .given .1)) ∙ c .before .before .before .line-read3 .ensures in
     rw (← efirst, ← esecond, ← e)
 
@@ -110,10 +112,12 @@ returns-4 c =
     let P = placeOf s (a .place) in
     let first = c .before .before .before .before .before .before .before .before .before .first .given in
     let pfirst = placeOf s (first .0 .1 .0) in
-    let efirst : done (first .0 .0) pfirst ≡ codedLine (a .k) (a .own) P = sym (ap (lineReadOf s) (first .1)) ∙ c .before .before .before .before .before .before .before .before .before .before .before .line-read .ensures in
+    let efirst : done (first .0 .0) pfirst ≡ codedLine (a .k) (a .own) P = sym (ap (lineReadOf s) (first .1))
+    ∙ c .before .before .before .before .before .before .before .before .before .before .before .line-read .ensures in
     let second = c .before .before .before .before .before .second .given in
     let psecond = placeOf s (second .0 .1 .0) in
-    let esecond : done (second .0 .0) psecond ≡ codedLine (a .k + 1) (a .own) pfirst = sym (ap (lineReadOf s) (second .1)) ∙ c .before .before .before .before .before .before .before .line-read2 .ensures in
+    let esecond : done (second .0 .0) psecond ≡ codedLine (a .k + 1) (a .own) pfirst = sym (ap (lineReadOf s) (second .1))
+    ∙ c .before .before .before .before .before .before .before .line-read2 .ensures in
     let third = c .before .third .given in
     let pthird = placeOf s (third .0 .1 .0) in
     let ethird : done (third .0 .0) pthird ≡ codedLine (a .k + 2) (a .own) psecond = sym (ap (lineReadOf s) (third .1)) ∙ c .before .before .before .line-read3 .ensures in

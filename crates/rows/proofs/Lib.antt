@@ -1,0 +1,3 @@
+pub mod Best
+pub mod Entries
+pub mod Shown

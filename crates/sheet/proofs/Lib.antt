@@ -1,0 +1,5 @@
+pub mod CallLaws
+pub mod Admissions
+pub mod TableWalks
+pub mod Reports
+pub mod RowCalls

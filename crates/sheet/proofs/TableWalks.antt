@@ -1,0 +1,134 @@
+-- The walk of an admitted table in memory is the rules' walk of the table: to its stop, or to an instant asked before it; and the figures that
+-- its windows have kept are the rules' figures.
+use mathlib.Core.Path.{_≡_, refl, sym, ap, subst, _∙_}
+use mathlib.Core.List.{List, [], _∷_, map}
+use mathlib.Core.Logic.{_⊎_}
+use Prim.Native.Nat.{ℕ, zero, suc, _+_, _*_, _-_, _≤_, _<_, min}
+use native.Mathlib.Nat.{not-suc-le-zero}
+use native.Mathlib.Omega.{arith}
+use lib.Dec.{T, ltb}
+use lib.ListN.{length, getD, take, replicate}
+use lib.Seq.{ext-getD, getD-take, length-take-le}
+use borrow.Author.Tests.{lt-ltb, le-ltb}
+use Rattle.rules.specs.Limits as Limits
+use Rattle.rules.specs.Table.{Table, Graph, hyperperiod}
+use Rattle.rules.specs.Servers.{Box, srv, sinksOf, boxOf, whole}
+use Rattle.rules.specs.Walk.{figure, figures}
+use Rattle.rules.specs.Reading.{admitted, admissionOf}
+use Rattle.rules.specs.WellFormed.{wellFormed}
+use Rattle.rules.proofs.TableBox.{length-sinks, server-fits, sink-is}
+use Rattle.table.specs.Fresh as Fresh
+use Rattle.table.specs.declared.State.{State}
+use Rattle.table.specs.declared.Table.{Table as Memory}
+use Rattle.window.specs.Entries.{places, serverAt}
+use Rattle.window.specs.Loops.{replaced}
+use Rattle.window.proofs.Loops.{replaced-length, replaced-in}
+use Rattle.window.proofs.Relation.{Fits, InStep}
+use Rattle.reading.specs.Memory.{withGraphs, withGraph, memoryOf}
+use Rattle.reading.specs.Admission.{codedAdmission}
+use Rattle.reading.specs.declared.admission.Admitted.{Admitted}
+use Rattle.planning.specs.Plans.{planOf}
+use Rattle.planning.specs.Offsets.{offsetsOf, largestOffsetOf}
+use Rattle.planning.proofs.Located.{graphAt, firstOf, first-within}
+use Rattle.planning.proofs.Memory.{codedGraph}
+use Rattle.planning.proofs.NodeFits.{few, room, laid}
+use Rattle.planning.proofs.Fits.{plan-fits, offsets-sized, offsets-fit, largest-fits}
+use Rattle.planning.proofs.Boundaries.{hyper-some, last-boundary}
+use Rattle.walking.specs.declared.Walk.{Walk}
+use Rattle.walking.specs.Walking.{walkOf}
+use Rattle.walking.proofs.Walked.{stop, AtStop, BeforeStop, walked-is}
+use Rattle.sheet.specs.Figures.{sinkOf, worstAt, figureOf, figuresOf}
+use Rattle.sheet.specs.Walks.{Walkable, walkOfTable}
+
+rounds-stay : (Gs : List Graph) (t : Memory) → withGraphs t Gs .rounds ≡ t .rounds
+unfolding withGraphs
+rounds-stay [] t = refl
+rounds-stay (G ∷ Gs) t = rounds-stay Gs (withGraph t G)
+
+-- the sink of graph g is its last node
+sink-place : (base : ℕ) (Gs : List Graph) (g : ℕ) → g < length Gs → getD (sinksOf base Gs) g 0 ≡ base + firstOf Gs g + length (graphAt Gs g .nodes) - 1
+unfolding sinksOf firstOf
+sink-place base [] g h = absurd (not-suc-le-zero h)
+sink-place base (G ∷ Gs) zero h = omega arith
+sink-place base (G ∷ Gs) (suc g) h = sink-place (base + length (G .nodes)) Gs g (omega arith) ∙ omega arith
+
+getD-map : (f : ℕ → ℕ) (l : List ℕ) (k : ℕ) → k < length l → getD (map f l) k 0 ≡ f (getD l k 0)
+getD-map f [] k h = absurd (not-suc-le-zero h)
+getD-map f (x ∷ xs) zero h = refl
+getD-map f (x ∷ xs) (suc k) h = getD-map f xs k (omega arith)
+
+length-map : (f : ℕ → ℕ) (l : List ℕ) → length (map f l) ≡ length l
+length-map f [] = refl
+length-map f (x ∷ xs) = ap suc (length-map f xs)
+
+module _ (U : Table) (ok : T (wellFormed U)) (short : hyperperiod U ≤ Limits.hyperperiod .to) where
+  abbrev pub X : Box
+  X = boxOf U
+
+  abbrev pub M : Memory
+  M = memoryOf U
+
+  abbrev pub a : Admitted
+  a = codedAdmission (admitted U)
+
+  rounds-are : M .rounds ≡ X .rounds
+  rounds-are = rounds-stay (U .graphs) (Fresh.emptyTable (U .processors) (U .rounds))
+
+  pub walkable : Walkable a
+  walkable =
+      let f = plan-fits U ok in
+      record {
+        processors-some = f .processors-some;
+        processors-most = f .processors-most;
+        in-time = rw (largest-fits U ok, rounds-are) (last-boundary U ok short);
+      }
+
+  pub graphs-are : M .graphs ≡ length (U .graphs)
+  graphs-are = laid U ok .graphs
+
+  pub few-graphs : M .graphs ≤ Limits.graphs .to
+  few-graphs = omega (arith, graphs-are, few U ok)
+
+  abbrev Came : ℕ → Walk → Type 0
+  Came asked w = ((stop X .ticks ≤ asked) × AtStop X w) ⊎ ((asked < stop X .ticks) × BeforeStop X asked w)
+
+  pub table-walked : (asked : ℕ)
+      → ((stop X .ticks ≤ asked) × AtStop X (walkOfTable a asked)) ⊎ ((asked < stop X .ticks) × BeforeStop X asked (walkOfTable a asked))
+  unfolding walkOfTable
+  table-walked asked =
+      let same : walkOfTable a asked ≡ walkOf (planOf M) (offsetsOf M) (X .origin) (X .hyper) (X .rounds) asked =
+      ap (λ (o : ℕ). walkOf (planOf M) (offsetsOf M) o (X .hyper) (M .rounds) asked) (largest-fits U ok)
+      ∙ ap (λ (r : ℕ). walkOf (planOf M) (offsetsOf M) (X .origin) (X .hyper) r asked) rounds-are in
+      subst (Came asked) (sym same)
+      (walked-is X (planOf M) (plan-fits U ok) (hyper-some U ok) (last-boundary U ok short) (λ i h. server-fits U ok i h .offset-le) (offsetsOf M)
+      (offsets-sized U ok) (offsets-fit U ok) asked)
+
+  -- the figures
+  module _ (t : ℕ) (st : State) (now : InStep X t st) where
+    sink-of : (g : ℕ) → g < length (U .graphs) → sinkOf (codedGraph (firstOf (U .graphs) g) (graphAt (U .graphs) g)) ≡ getD (X .sinks) g 0
+    sink-of g h =
+        let fits : firstOf (U .graphs) g + length (graphAt (U .graphs) g .nodes) ≤ places = omega (arith, first-within (U .graphs) g h, room U ok) in
+        rw (le-ltb places (firstOf (U .graphs) g) (omega arith), le-ltb places (length (graphAt (U .graphs) g .nodes)) (omega arith))
+        (omega (arith, sink-place 0 (U .graphs) g h))
+
+    figure-is : (g : ℕ) → g < length (U .graphs) → figureOf M st g ≡ figure X (whole (X .servers)) (getD (X .sinks) g 0) t
+    figure-is g h =
+        let (in-list, in-S, budget) = sink-is U ok g h in
+        let small = plan-fits U ok .small in
+        rw (laid U ok .graph g h, sink-of g h, lt-ltb (getD (X .sinks) g 0) places (omega arith)) (now .row (getD (X .sinks) g 0) in-S .worst)
+
+    pub figures-are : take (M .graphs) (figuresOf M st) ≡ figures X (whole (X .servers)) t
+    unfolding figures
+    figures-are =
+        let zeros : List ℕ = replicate (Limits.graphs .to) 0 in
+        let long : length (figuresOf M st) ≡ Limits.graphs .to = replaced-length (figureOf M st) zeros (Limits.graphs .to) in
+        let cut : length (take (M .graphs) (figuresOf M st)) ≡ M .graphs = length-take-le (M .graphs) (figuresOf M st) (omega (arith, few-graphs)) in
+        let whole-length : length (map (λ (i : ℕ). figure X (whole (X .servers)) i t) (X .sinks)) ≡ length (U .graphs) =
+        length-map (λ (i : ℕ). figure X (whole (X .servers)) i t) (X .sinks) ∙ length-sinks 0 (U .graphs) in
+        ext-getD 0 (take (M .graphs) (figuresOf M st)) (map (λ (i : ℕ). figure X (whole (X .servers)) i t) (X .sinks)) (omega (arith, graphs-are))
+        (λ g h.
+        let inside : g < length (U .graphs) = omega (arith, graphs-are) in
+        getD-take (M .graphs) (figuresOf M st) g 0 (omega arith)
+        ∙ replaced-in (figureOf M st) zeros (Limits.graphs .to) g 0 (omega (arith, few-graphs)) (omega arith)
+        ∙ figure-is g inside
+        ∙ sym (getD-map (λ (i : ℕ). figure X (whole (X .servers)) i t) (X .sinks) g (omega (arith, length-sinks 0 (U .graphs)))))

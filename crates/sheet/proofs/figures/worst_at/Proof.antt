@@ -1,0 +1,20 @@
+-- `worst_at` meets its contract, by its test.
+use borrow.Author.Needs.{needs}
+use borrow.Author.Tests.{lt-ltb, le-ltb}
+use Rattle.sheet.proofs.figures.worst_at.Statement.{statement}
+use Rattle.sheet.proofs.figures.worst_at.Tie as tie
+
+mul-s : tie.Need-mul-s
+mul-s c = search needs
+
+element-copy-out-s : tie.Need-element-copy-out-s
+element-copy-out-s c = search needs
+
+returns : tie.Need-returns
+returns c = rw (lt-ltb _ _ (c .before .if1 .taken))
+
+returns-2 : tie.Need-returns-2
+returns-2 c = rw (le-ltb _ _ (c .if1 .left))
+
+pub worst-at-spec : {M : Type 1} → statement M
+worst-at-spec = tie.close (tie.spec mul-s element-copy-out-s returns returns-2)

@@ -1,0 +1,69 @@
+-- `row` meets its contract: what was read passed or was refused, and so are the bytes.
+use mathlib.Core.Path.{refl, sym, ap, _∙_}
+use Rattle.rules.specs.Answers.{callOf}
+use Rattle.sheet.specs.Walks.{walkOfTable}
+use Rattle.sheet.proofs.CallLaws.{refused-call}
+use Rattle.sheet.proofs.Admissions.{passes, is-refused}
+use Rattle.sheet.proofs.Reports.{passed-walkable}
+use Rattle.sheet.proofs.RowCalls.{passed-row, refused-row}
+use borrow.Author.Needs.{needs}
+use Rattle.sheet.proofs.rowing.row.Statement.{statement}
+use Rattle.sheet.proofs.rowing.row.Tie as tie
+use Rattle.sheet.proofs.rowing.row.Reads as reads
+use Rattle.sheet.proofs.rowing.row.Lts as lts
+use Rattle.reading.proofs.admit.Reads as admit-reads
+use Rattle.sheet.proofs.rowing.near.Reads as near-reads
+use Rattle.sheet.proofs.rowing.row_walk.Reads as row-walk-reads
+use Rattle.sheet.proofs.walks.walked.Reads as walked-reads
+
+admit-requires : tie.Need-admit-requires
+admit-requires c κs = search needs
+
+enum-known-verdict : tie.Need-enum-known-verdict
+enum-known-verdict c = search needs
+
+enum-told : tie.Need-enum-told
+enum-told c = search needs
+
+near-requires : tie.Need-near-requires
+near-requires c κs = search needs
+
+walked-requires : tie.Need-walked-requires
+walked-requires c κs =
+    let A = c .before .before .before in
+    passed-walkable _ _ (passes _ (A .admit .result) (A .admit .ensures) (c .before .enum-told .given .1))
+
+row-walk-requires : tie.Need-row-walk-requires
+row-walk-requires c κs =
+    let A = c .before .before .before .before .before in
+    let w = passed-walkable _ _ (passes _ (A .admit .result) (A .admit .ensures) (c .before .before .before .enum-told .given .1)) in
+    (w .processors-some, w .processors-most)
+
+returns : tie.Need-returns
+returns c =
+    let A = c .before .before .before in
+    refused-call _ _ ∙ ap (callOf _) (sym (refused-row _ _ _ (is-refused _ (A .admit .result) (A .admit .ensures) _ (c .before .verdict .given .1))))
+
+same-length : tie.Need-same-length
+same-length c = search needs
+
+returns-2 : tie.Need-returns-2
+returns-2 c =
+    let A = c .before .before .before .before .before .before .before .before in
+    let p = passes _ (A .admit .result) (A .admit .ensures) (c .before .before .before .before .before .before .enum-told .given .1) in
+    let W = c .before .before .before .before in
+    c .before .before .row-walk .ensures ∙ ap (callOf _) (passed-row _ (A .admit .result) p _ (W .walked .result) (W .walked .ensures ∙ ap (walkOfTable (A .admit .result)) (c .before .before .before .before .before .near .ensures)))
+
+pub row-spec : {M : Type 1} → statement M
+row-spec =
+    tie.close
+    (tie.spec
+    admit-requires
+    enum-known-verdict
+    enum-told
+    near-requires
+    walked-requires
+    row-walk-requires
+    returns
+    same-length
+    returns-2)

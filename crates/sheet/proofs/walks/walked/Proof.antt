@@ -1,0 +1,41 @@
+-- `walked` meets its contract: the plan, the offsets and the largest offset are those of the table.
+use mathlib.Core.Path.{refl, _∙_}
+use Rattle.sheet.specs.Walks.{walkOfTable}
+use borrow.Author.Needs.{needs}
+use Rattle.sheet.proofs.walks.walked.Statement.{statement}
+use Rattle.sheet.proofs.walks.walked.Tie as tie
+use Rattle.sheet.proofs.walks.walked.Reads as reads
+use Rattle.sheet.proofs.walks.walked.Lts as lts
+use Rattle.planning.proofs.largest_offset.Reads as largest-offset-reads
+use Rattle.planning.proofs.offsets_of.Reads as offsets-of-reads
+use Rattle.planning.proofs.plan_of.Reads as plan-of-reads
+use Rattle.walking.proofs.walk_to.Reads as walk-to-reads
+
+plan-of-requires : tie.Need-plan-of-requires
+plan-of-requires c κs = search needs
+
+offsets-of-requires : tie.Need-offsets-of-requires
+offsets-of-requires c κs = search needs
+
+largest-offset-requires : tie.Need-largest-offset-requires
+largest-offset-requires c κs = search needs
+
+walk-to-requires : tie.Need-walk-to-requires
+walk-to-requires c κs =
+    let w = c .before .before .before .before .pre in
+    rw (c .before .before .plan-of .ensures, c .largest-offset .ensures) (w .processors-some, w .processors-most, w .in-time)
+
+returns : tie.Need-returns
+unfolding walkOfTable
+returns c =
+    c .walk-to .ensures ∙ rw (c .before .before .before .plan-of .ensures, c .before .before .offsets-of .ensures, c .before .largest-offset .ensures)
+
+pub walked-spec : {M : Type 1} → statement M
+walked-spec =
+    tie.close
+    (tie.spec
+    plan-of-requires
+    offsets-of-requires
+    largest-offset-requires
+    walk-to-requires
+    returns)

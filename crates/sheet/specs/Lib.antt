@@ -1,0 +1,4 @@
+pub mod Figures
+pub mod Walks
+pub mod Calls
+pub mod Rows

@@ -1,0 +1,28 @@
+-- The walk of a table in memory: what `walked` computes, and when. For the proof, not for belief.
+use Prim.Native.Nat.{ℕ, _+_, _*_, _≤_}
+use Rattle.rules.specs.Limits as Limits
+use Rattle.rules.specs.Walk.{Stop, settled, unsettled, backlog}
+use Rattle.reading.specs.declared.admission.Admitted.{Admitted}
+use Rattle.planning.specs.Plans.{planOf}
+use Rattle.planning.specs.Offsets.{offsetsOf, largestOffsetOf}
+use Rattle.walking.specs.declared.How.{How}
+use Rattle.walking.specs.declared.How.the-variants.{Settled, Unsettled, Backlog, Reached}
+use Rattle.walking.specs.declared.Walk.{Walk}
+use Rattle.walking.specs.Walking.{walkOf}
+
+-- what the walk asks of a table
+pub record Walkable (a : Admitted) : Type 0 where
+  pub processors-some : 1 ≤ planOf (a .table) .processors
+  pub processors-most : planOf (a .table) .processors ≤ Limits.processors .to
+  pub in-time : largestOffsetOf (a .table) + a .table .rounds * a .hyperperiod ≤ Limits.offset .to + Limits.rounds .to * Limits.hyperperiod .to
+
+unfoldable pub walkOfTable : Admitted → ℕ → Walk
+walkOfTable a asked =
+    walkOf (planOf (a .table)) (offsetsOf (a .table)) (largestOffsetOf (a .table)) (a .hyperperiod) (a .table .rounds) asked
+
+-- the rules' word for how a walk stopped. (A report's walk comes to no instant asked.)
+abbrev pub stopOf : How → Stop
+stopOf (Settled k) = settled k
+stopOf Unsettled = unsettled
+stopOf Backlog = backlog
+stopOf Reached = unsettled

@@ -1,0 +1,42 @@
+// The figure of each graph: the largest response that the window of its sink has kept.
+use table::Graph;
+use table::State;
+use table::Table;
+ghost use mathlib.Core.Path.{_≡_};
+ghost use Rattle.sheet.specs.Figures as Mirror;
+
+// The place of a graph's sink; 0 for a graph that no table has.
+pub fn sink_of(g: Graph) -> usize
+    ensures { λ r. ⌜ r ≡ Mirror.sinkOf g ⌝ }
+{
+    if Table::SERVERS < g.first {
+        return 0;
+    }
+    if Table::SERVERS < g.nodes {
+        return 0;
+    }
+    let end = g.first + g.nodes;
+    if end == 0 { 0 } else { end - 1 }
+}
+
+pub fn worst_at(st: State, place: usize) -> u32
+    ensures { λ r. ⌜ r ≡ Mirror.worstAt st place ⌝ }
+{
+    if place < Table::SERVERS {
+        let s = st.servers[place];
+        return s.worst;
+    }
+    0
+}
+
+pub fn figures_of(table: Table, st: State) -> [u32; Table::GRAPHS]
+    ensures { λ r. ⌜ r ≡ Mirror.figuresOf table st ⌝ }
+{
+    let mut f = [0u32; Table::GRAPHS];
+    let mut g: usize = 0;
+    while g < Table::GRAPHS {
+        f[g] = worst_at(st, sink_of(table.graph[g]));
+        g += 1;
+    }
+    f
+}

@@ -1,0 +1,67 @@
+// The report of a table: the walk to its stop, and the text of its figures in the lent buffer.
+use crate::figures::figures_of;
+use crate::walks::walked;
+use reading::Verdict;
+use rules::Answer;
+use rules::Refusal;
+use table::Table;
+use walking::How;
+use walking::Walk;
+ghost use mathlib.Core.Path.{_≡_};
+ghost use Prim.Native.Nat.{_≤_};
+ghost use lib.ListN.{take};
+ghost use Rattle.rules.specs.Limits as Limits;
+ghost use Rattle.rules.specs.Answers.{Call, says, reportText, reportOn, reportOf, callOf};
+ghost use Rattle.rules.specs.Refusals.{answerNumber};
+ghost use Rattle.rules.specs.Demands.{TrueReport};
+ghost use Rattle.sheet.specs.Figures.{figuresOf};
+ghost use Rattle.sheet.specs.Walks.{stopOf};
+ghost use Rattle.sheet.specs.Calls.{called};
+
+// Refusal 10 is known before the first byte is written.
+pub fn put_settled(
+    buffer: &mut [u8],
+    round: u32,
+    ticks: u32,
+    figures: [u32; Table::GRAPHS],
+    graphs: usize,
+) -> Answer
+    requires { ⌜ graphs ≤ Limits.graphs .to ⌝ }
+    ensures { λ r. ⌜ called r (now (buffer .exit)) ≡ callOf (now (buffer .entry)) (says (reportText round ticks (take graphs figures))) ⌝ }
+{
+    let n = writing::report_length(round, ticks, figures, graphs);
+    if buffer.len() < n {
+        return Answer::Refused(Refusal::ShortBuffer);
+    }
+    writing::put_report(buffer, round, ticks, figures, graphs);
+    Answer::Text(n)
+}
+
+pub fn report_walk(table: Table, w: Walk, buffer: &mut [u8]) -> Answer
+    requires { ⌜ table .graphs ≤ Limits.graphs .to ⌝ }
+    ensures { λ r. ⌜ called r (now (buffer .exit)) ≡ callOf (now (buffer .entry)) (reportOn (stopOf (w .how)) (w .ticks) (take (table .graphs) (figuresOf table (w .state)))) ⌝ }
+{
+    let how = w.how;
+    match how {
+        How::Settled(k) => {
+            let st = w.state;
+            put_settled(buffer, k, w.ticks, figures_of(table, st), table.graphs)
+        }
+        How::Backlog => Answer::Refused(Refusal::Backlog),
+        How::Unsettled => Answer::Refused(Refusal::Unsettled),
+        How::Reached => Answer::Refused(Refusal::Unsettled),
+    }
+}
+
+// The report of a table. What it returns and leaves in the buffer is the rules' own; and where it gives figures, each is the least true one.
+pub fn report(table: &[u8], buffer: &mut [u8]) -> Answer
+    ensures call { λ r. ⌜ called r (now (buffer .exit)) ≡ callOf (now (buffer .entry)) (reportOf (now (table .entry))) ⌝ }
+    ensures least_true { λ r. ⌜ (answerNumber r ≡ 0 → TrueReport (now (table .entry))) ⌝ }
+{
+    let a = reading::admit(table);
+    let verdict = a.verdict;
+    match verdict {
+        Verdict::Refused(r) => Answer::Refused(r),
+        Verdict::Passed => report_walk(a.table, walked(a, u32::MAX), buffer),
+    }
+}

@@ -1,0 +1,73 @@
+// The row of a table at an instant: the walk to that instant, and the text of what runs there in the lent buffer.
+use crate::walks::walked;
+use reading::Verdict;
+use rules::Answer;
+use rules::Refusal;
+use table::Table;
+use walking::How;
+use walking::Walk;
+use writing::Row;
+ghost use mathlib.Core.Path.{_≡_};
+ghost use Prim.Native.Nat.{_≤_, min};
+ghost use Rattle.rules.specs.Limits as Limits;
+ghost use Rattle.rules.specs.Answers.{says, rowText, rowOf, callOf};
+ghost use Rattle.planning.specs.Plans.{planOf};
+ghost use Rattle.window.specs.Entries.{lastKey};
+ghost use Rattle.writing.specs.Row.{runningIn};
+ghost use Rattle.sheet.specs.Calls.{called};
+ghost use Rattle.sheet.specs.Rows.{rowReply};
+
+// An instant past every stop stands for all that are later.
+pub fn near(instant: u64) -> u32
+    ensures { λ r. ⌜ r ≡ min instant lastKey ⌝ }
+{
+    if instant < u32::MAX as u64 {
+        instant as u32
+    } else {
+        u32::MAX
+    }
+}
+
+// Refusal 10 is known before the first byte is written.
+pub fn put_running(buffer: &mut [u8], row: Row) -> Answer
+    requires { ⌜ row .count ≤ Limits.processors .to ⌝ }
+    ensures { λ r. ⌜ called r (now (buffer .exit)) ≡ callOf (now (buffer .entry)) (says (rowText (runningIn row))) ⌝ }
+{
+    let n = writing::row_length(row);
+    if buffer.len() < n {
+        return Answer::Refused(Refusal::ShortBuffer);
+    }
+    writing::put_row(buffer, row);
+    Answer::Text(n)
+}
+
+// A walk that stopped before it came to the instant asked is refused as 9.
+pub fn row_walk(table: Table, w: Walk, buffer: &mut [u8]) -> Answer
+    requires { ⌜ (1 ≤ planOf table .processors) × (planOf table .processors ≤ Limits.processors .to) ⌝ }
+    ensures { λ r. ⌜ called r (now (buffer .exit)) ≡ callOf (now (buffer .entry)) (rowReply table w) ⌝ }
+{
+    let how = w.how;
+    match how {
+        How::Reached => {
+            let st = w.state;
+            let plan = planning::plan_of(table);
+            let offsets = planning::offsets_of(table);
+            put_running(buffer, rows::row_of(plan, offsets, st))
+        }
+        How::Settled(_) => Answer::Refused(Refusal::PastTheStop),
+        How::Unsettled => Answer::Refused(Refusal::PastTheStop),
+        How::Backlog => Answer::Refused(Refusal::PastTheStop),
+    }
+}
+
+// The row of a table at an instant. What it returns and leaves in the buffer is the rules' own.
+pub fn row(table: &[u8], instant: u64, buffer: &mut [u8]) -> Answer
+    ensures { λ r. ⌜ called r (now (buffer .exit)) ≡ callOf (now (buffer .entry)) (rowOf (now (table .entry)) instant) ⌝ }
+{
+    let a = reading::admit(table);
+    let verdict = a.verdict;
+    match verdict {
+        Verdict::Refused(r) => Answer::Refused(r),
+        Verdict::Passed => row_walk(a.table, walked(a, near(instant)), buffer),
+    }
+}

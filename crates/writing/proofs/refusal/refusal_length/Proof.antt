@@ -1,0 +1,57 @@
+-- `refusal_length` meets its contract.
+use mathlib.Core.Path.{ap, _∙_}
+use Prim.Native.Nat.{ℕ}
+use native.Mathlib.Omega.{arith}
+use lib.ListN.{length, length-append}
+use Rattle.rules.specs.Bytes.{bytes}
+use Rattle.rules.specs.Refusals.{numberOf, lineOf}
+use Rattle.rules.specs.Answers.{answerLine, printed}
+use Rattle.writing.specs.Line.{line}
+use borrow.Author.Needs.{needs}
+use Rattle.writing.proofs.refusal.refusal_length.Statement.{statement}
+use Rattle.writing.proofs.refusal.refusal_length.Tie as tie
+
+slice-aggregate-line-length : tie.Need-slice-aggregate-line-length
+slice-aggregate-line-length c = search needs
+
+number-of-requires : tie.Need-number-of-requires
+number-of-requires c κs = search needs
+
+line-length-requires : tie.Need-line-length-requires
+line-length-requires c κs = search needs
+
+slice-aggregate-line-length-2 : tie.Need-slice-aggregate-line-length-2
+slice-aggregate-line-length-2 c = search needs
+
+line-of-requires : tie.Need-line-of-requires
+line-of-requires c κs = search needs
+
+line-length-requires-2 : tie.Need-line-length-requires-2
+line-length-requires-2 c κs = search needs
+
+add-result : tie.Need-add-result
+add-result c = omega (arith, c .before .before .before .line-length .ensures .within, c .line-length2 .ensures .within)
+
+returns : tie.Need-returns
+unfolding printed answerLine
+returns c =
+    let r = c .before .before .before .before .before .before .args .r in
+    let first = c .before .before .before .line-length .ensures .size ∙ ap (λ (k : ℕ). length (line (bytes "answer") k)) (c .before .before .before .before .number-of .ensures) in
+    let second = c .line-length2 .ensures .size ∙ ap (λ (k : ℕ). length (line (bytes "line") k)) (c .before .line-of .ensures) in
+    record {
+      size = omega (arith, length-append (line (bytes "answer") (numberOf r)) (line (bytes "line") (lineOf r)), first, second);
+      within = omega (arith, c .before .before .before .line-length .ensures .within, c .line-length2 .ensures .within);
+    }
+
+pub refusal-length-spec : {M : Type 1} → statement M
+refusal-length-spec =
+    tie.close
+    (tie.spec
+    slice-aggregate-line-length
+    number-of-requires
+    line-length-requires
+    slice-aggregate-line-length-2
+    line-of-requires
+    line-length-requires-2
+    add-result
+    returns)

@@ -1,0 +1,4 @@
+pub mod Written
+pub mod Lengths
+pub mod Line
+pub mod Row

@@ -1,0 +1,15 @@
+-- A line over any name: `answerLine` of the rules is the one whose name is quoted.
+use mathlib.Core.List.{List, [], _∷_, _++_}
+use Prim.Native.Nat.{ℕ}
+use Rattle.rules.specs.Bytes.{equals, comma, lineFeed, decimal}
+
+-- a number and the byte that ends it
+abbrev pub ended : ℕ → ℕ → List ℕ
+ended v e = decimal v ++ (e ∷ [])
+
+-- two numbers parted by a comma, and the byte that ends them
+abbrev pub pair : ℕ → ℕ → ℕ → List ℕ
+pair v x e = ended v comma ++ ended x e
+
+abbrev pub line : List ℕ → ℕ → List ℕ
+line name v = name ++ (equals ∷ ended v lineFeed)

@@ -1,0 +1,59 @@
+// What the program prints of a refusal: `answer=` with the number, and `line=`.
+use crate::line::line_length;
+use crate::line::put_line;
+use rules::Refusal;
+ghost use mathlib.Core.Path.{_≡_};
+ghost use Prim.Native.Nat.{_≤_};
+ghost use lib.ListN.{length};
+ghost use Rattle.rules.specs.Refusals.{numberOf, lineOf};
+ghost use Rattle.rules.specs.Answers.{refuses, printed};
+ghost use Rattle.writing.specs.Lengths.{Long, longestRefusal};
+ghost use Rattle.writing.specs.Written.{Written};
+
+pub fn number_of(r: Refusal) -> u32
+    ensures { λ n. ⌜ n ≡ numberOf r ⌝ }
+{
+    match r {
+        Refusal::TooLong => 1,
+        Refusal::Misspelled { line: _ } => 2,
+        Refusal::OutsideLimits { line: _ } => 3,
+        Refusal::AgainstPredecessorRules { line: _ } => 4,
+        Refusal::LongHyperperiod => 5,
+        Refusal::NotLoadable => 6,
+        Refusal::Backlog => 7,
+        Refusal::Unsettled => 8,
+        Refusal::PastTheStop => 9,
+        Refusal::ShortBuffer => 10,
+    }
+}
+
+pub fn line_of(r: Refusal) -> u32
+    ensures { λ n. ⌜ n ≡ lineOf r ⌝ }
+{
+    match r {
+        Refusal::TooLong => 0,
+        Refusal::Misspelled { line } => line,
+        Refusal::OutsideLimits { line } => line,
+        Refusal::AgainstPredecessorRules { line } => line,
+        Refusal::LongHyperperiod => 0,
+        Refusal::NotLoadable => 0,
+        Refusal::Backlog => 0,
+        Refusal::Unsettled => 0,
+        Refusal::PastTheStop => 0,
+        Refusal::ShortBuffer => 0,
+    }
+}
+
+pub fn refusal_length(r: Refusal) -> usize
+    ensures { λ n. ⌜ Long (printed (refuses r)) longestRefusal n ⌝ }
+{
+    line_length(b"answer", number_of(r)) + line_length(b"line", line_of(r))
+}
+
+pub fn put_refusal(buf: &mut [u8], r: Refusal) -> usize
+    requires { ⌜ length (printed (refuses r)) ≤ length (now buf) ⌝ }
+    ensures { λ n. ⌜ Written (printed (refuses r)) (now (buf .entry)) (now (buf .exit)) n ⌝ }
+{
+    let at = put_line(&mut *buf, b"answer", number_of(r));
+    at + put_line(&mut buf[at..], b"line", line_of(r))
+}
