@@ -1,8 +1,12 @@
-// The public calls: the report of a table, and its row at an instant.
+// The public calls: the report of a table, and its row at an instant; from Rattle, and from C.
+mod exports;
 mod figures;
 mod reporting;
 mod rowing;
 mod walks;
 
+pub use exports::PhalandrixAnswer;
+pub use exports::phalandrix_report;
+pub use exports::phalandrix_row;
 pub use reporting::report;
 pub use rowing::row;

@@ -1,0 +1,18 @@
+-- From a call's answer to what C is told of it.
+use mathlib.Core.Path.{_≡_, refl, sym, ap, _∙_}
+use mathlib.Core.List.{List}
+use Prim.Native.Nat.{ℕ}
+use Rattle.rules.specs.declared.Answer.{Answer}
+use Rattle.rules.specs.Refusals.{answerNumber}
+use Rattle.rules.specs.Answers.{Call}
+use Rattle.sheet.specs.declared.exports.PhalandrixAnswer.{PhalandrixAnswer}
+use Rattle.sheet.specs.Calls.{called}
+use Rattle.sheet.specs.Exports.{toldOf, Told}
+
+module _ (a : Answer) (r : PhalandrixAnswer) (is-told : r ≡ toldOf a) where
+  pub told-call : (buffer : List ℕ) (call : Call) → called a buffer ≡ call → Told r buffer call
+  told-call buffer call e =
+      record { answer = is-told ∙ ap (λ (k : Call). toldOf (k .answer)) e; bytes = ap (λ (k : Call). k .buffer) e }
+
+  pub answered : r .number ≡ 0 → answerNumber a ≡ 0
+  answered z = ap (λ (x : PhalandrixAnswer). x .number) (sym is-told) ∙ z

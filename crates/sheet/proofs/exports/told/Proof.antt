@@ -1,0 +1,31 @@
+-- `told` meets its contract, case by case.
+use borrow.Author.Needs.{needs}
+use Rattle.sheet.proofs.exports.told.Statement.{statement}
+use Rattle.sheet.proofs.exports.told.Tie as tie
+use Rattle.sheet.proofs.exports.told.Reads as reads
+use Rattle.sheet.proofs.exports.told.Lts as lts
+use Rattle.writing.proofs.line_of.Reads as line-of-reads
+use Rattle.writing.proofs.number_of.Reads as number-of-reads
+
+enum-known-a : tie.Need-enum-known-a
+enum-known-a c = search needs
+
+enum-known-a-2 : tie.Need-enum-known-a-2
+enum-known-a-2 c = search needs
+
+number-of-requires : tie.Need-number-of-requires
+number-of-requires c κs = search needs
+
+line-of-requires : tie.Need-line-of-requires
+line-of-requires c κs = search needs
+
+returns : tie.Need-returns
+returns c = rw (c .before .a .given .1)
+
+returns-2 : tie.Need-returns-2
+returns-2 c = rw (c .before .before .before .a2 .given .1, c .before .number-of .ensures, c .line-of .ensures)
+
+pub told-spec : {M : Type 1} → statement M
+told-spec =
+    tie.close
+    (tie.spec enum-known-a enum-known-a-2 number-of-requires line-of-requires returns returns-2)

@@ -1,0 +1,16 @@
+-- What C is told of a call, and what it finds in its buffer.
+use mathlib.Core.Path.{_≡_}
+use mathlib.Core.List.{List}
+use Prim.Native.Nat.{ℕ}
+use Rattle.rules.specs.declared.Answer.{Answer}
+use Rattle.rules.specs.Refusals.{answerNumber, answerLineNumber, answerLength}
+use Rattle.rules.specs.Answers.{Call}
+use Rattle.sheet.specs.declared.exports.PhalandrixAnswer.{PhalandrixAnswer}
+
+-- document 01's number, line and length for every case of an answer
+abbrev pub toldOf : Answer → PhalandrixAnswer
+toldOf a = record { number = answerNumber a; line = answerLineNumber a; length = answerLength a }
+
+pub record Told (r : PhalandrixAnswer) (buffer : List ℕ) (call : Call) : Type 0 where
+  pub answer : r ≡ toldOf (call .answer)
+  pub bytes : buffer ≡ call .buffer

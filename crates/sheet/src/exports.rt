@@ -1,0 +1,48 @@
+// The two calls for C. A slice passes as a pointer and a length, and the answer by value.
+use crate::reporting::report;
+use crate::rowing::row;
+use rules::Answer;
+ghost use mathlib.Core.Path.{_≡_};
+ghost use Rattle.rules.specs.Answers.{reportOf, rowOf, callOf};
+ghost use Rattle.rules.specs.Demands.{TrueReport};
+ghost use Rattle.sheet.specs.Exports.{toldOf, Told};
+
+// Document 01's number and line, and the text's length: number 0 and line 0 with the length; or a refusal's number and line with length 0.
+#[repr(C)]
+pub struct PhalandrixAnswer {
+    pub number: u32,
+    pub line: u32,
+    pub length: usize,
+}
+
+pub fn told(a: Answer) -> PhalandrixAnswer
+    ensures { λ r. ⌜ r ≡ toldOf a ⌝ }
+{
+    match a {
+        Answer::Text(n) => PhalandrixAnswer {
+            number: 0,
+            line: 0,
+            length: n,
+        },
+        Answer::Refused(f) => PhalandrixAnswer {
+            number: writing::number_of(f),
+            line: writing::line_of(f),
+            length: 0,
+        },
+    }
+}
+
+#[no_mangle]
+pub extern "C" fn phalandrix_report(table: &[u8], buffer: &mut [u8]) -> PhalandrixAnswer
+    ensures call { λ r. ⌜ Told r (now (buffer .exit)) (callOf (now (buffer .entry)) (reportOf (now (table .entry)))) ⌝ }
+    ensures least_true { λ r. ⌜ (r .number ≡ 0 → TrueReport (now (table .entry))) ⌝ }
+{
+    told(report(table, buffer))
+}
+
+#[no_mangle]
+pub extern "C" fn phalandrix_row(table: &[u8], instant: u64, buffer: &mut [u8]) -> PhalandrixAnswer
+    ensures { λ r. ⌜ Told r (now (buffer .exit)) (callOf (now (buffer .entry)) (rowOf (now (table .entry)) instant)) ⌝ }
+{
+    told(row(table, instant, buffer))
+}

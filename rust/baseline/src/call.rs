@@ -1,0 +1,77 @@
+//! The two calls with a lent buffer.
+
+use crate::Pace;
+use crate::engine::Engine;
+use crate::table::Table;
+use crate::walk::{End, walk};
+use crate::writer::{self, Text};
+
+/// What a call returns; number 0 is an answer, all else a refusal.
+#[derive(Clone, Copy, Debug, PartialEq, Eq)]
+pub struct Answer {
+    pub number: u32,
+    pub line: u32,
+    pub length: usize,
+}
+
+impl Answer {
+    pub(crate) fn refusal(number: u32, line: u32) -> Answer {
+        Answer { number, line, length: 0 }
+    }
+}
+
+pub fn report(pace: Pace, table: &[u8], buffer: &mut [u8]) -> Answer {
+    let (table, hyperperiod) = match judge(table) {
+        Ok(judged) => judged,
+        Err(refusal) => return refusal,
+    };
+    let mut engine = Engine::new(&table);
+    match walk_at(pace, &mut engine, hyperperiod, None) {
+        End::Settled { round } => lend(&writer::report(&engine, round), buffer),
+        End::Unsettled => Answer::refusal(8, 0),
+        End::Backlog | End::Asked => Answer::refusal(7, 0),
+    }
+}
+
+pub fn row(pace: Pace, table: &[u8], instant: u64, buffer: &mut [u8]) -> Answer {
+    let (table, hyperperiod) = match judge(table) {
+        Ok(judged) => judged,
+        Err(refusal) => return refusal,
+    };
+    // No walk reaches an instant that needs more than 32 bits.
+    let Ok(asked) = u32::try_from(instant) else { return Answer::refusal(9, 0) };
+    let mut engine = Engine::new(&table);
+    match walk_at(pace, &mut engine, hyperperiod, Some(asked)) {
+        End::Asked => lend(&writer::row(&engine), buffer),
+        _ => Answer::refusal(9, 0),
+    }
+}
+
+fn walk_at(pace: Pace, engine: &mut Engine, hyperperiod: u32, asked: Option<u32>) -> End {
+    match pace {
+        Pace::Tick => walk::<false>(engine, hyperperiod, asked),
+        Pace::Event => walk::<true>(engine, hyperperiod, asked),
+    }
+}
+
+/// Refusals 1 to 6.
+fn judge(bytes: &[u8]) -> Result<(Table, u32), Answer> {
+    let table = crate::reader::read(bytes)?;
+    let hyperperiod = table.hyperperiod().ok_or(Answer::refusal(5, 0))?;
+    if !table.is_loadable(hyperperiod) {
+        return Err(Answer::refusal(6, 0));
+    }
+    Ok((table, hyperperiod))
+}
+
+/// Writes the text, or refuses with 10 and changes nothing.
+fn lend(text: &Text, buffer: &mut [u8]) -> Answer {
+    let text = text.bytes();
+    match buffer.get_mut(..text.len()) {
+        None => Answer::refusal(10, 0),
+        Some(part) => {
+            part.copy_from_slice(text);
+            Answer { number: 0, line: 0, length: text.len() }
+        }
+    }
+}

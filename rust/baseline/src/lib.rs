@@ -1,0 +1,33 @@
+//! Plain safe Rust engines for the benchmark.
+//!
+//! Both keep a window of at most 16 pending server jobs per server. `Tick`
+//! walks tick by tick; `Event` jumps to the next release or completion. They
+//! share every part but the length of a step, so that the ratio between them
+//! measures just that.
+//!
+//! - `table`, `reader`: the table in fixed arrays, read from bytes;
+//! - `window`: one server's pending server jobs;
+//! - `chosen`: the server jobs that run;
+//! - `engine`: one step of the schedule;
+//! - `walk`: boundaries and the stop;
+//! - `writer`: the text of an answer;
+//! - `call`: the two calls with a lent buffer.
+#![forbid(unsafe_code)]
+
+mod call;
+mod chosen;
+mod engine;
+mod reader;
+mod table;
+mod walk;
+mod window;
+mod writer;
+
+pub use call::{Answer, report, row};
+
+/// The length of a step.
+#[derive(Clone, Copy, Debug, PartialEq, Eq)]
+pub enum Pace {
+    Tick,
+    Event,
+}

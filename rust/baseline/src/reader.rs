@@ -1,0 +1,132 @@
+//! Reads a table from the caller's bytes, one line after another.
+
+use crate::call::Answer;
+use crate::table::{Graph, Node, Table};
+
+/// A key, and the least and the largest number it takes.
+type Key = (&'static [u8], u32, u32);
+
+const PROCESSORS: Key = (b"processors=", 1, Table::PROCESSORS as u32);
+const ROUNDS: Key = (b"rounds=", 1, 64);
+const GRAPHS: Key = (b"graphs=", 1, Table::GRAPHS as u32);
+const PERIOD: Key = (b"period=", 1, 10_000);
+const OFFSET: Key = (b"offset=", 0, 10_000);
+const NODES: Key = (b"nodes=", 1, 16);
+const BUDGET: Key = (b"budget=", 1, 10_000);
+const LEVEL: Key = (b"level=", 1, Table::LEVEL as u32);
+const AFTER: &[u8] = b"after=";
+
+/// A value that stands for every number too large for any limit.
+const TOO_LARGE: u32 = 1_000_000;
+
+pub fn read(bytes: &[u8]) -> Result<Table, Answer> {
+    if bytes.len() > Table::BYTES {
+        return Err(Answer::refusal(1, 0));
+    }
+    let mut reader = Reader { bytes, position: 0, line: 0 };
+    let mut table = Table::empty();
+    table.processors = reader.number_line(PROCESSORS)?;
+    table.rounds = reader.number_line(ROUNDS)?;
+    table.graph_count = reader.number_line(GRAPHS)? as usize;
+    for index in 0..table.graph_count {
+        reader.graph(&mut table, index)?;
+    }
+    if reader.position < bytes.len() {
+        return Err(Answer::refusal(2, reader.line + 1));
+    }
+    Ok(table)
+}
+
+/// The lent bytes, the position reached and the number of the current line.
+struct Reader<'a> {
+    bytes: &'a [u8],
+    position: usize,
+    line: u32,
+}
+
+impl Reader<'_> {
+    fn refuse<T>(&self, number: u32) -> Result<T, Answer> {
+        Err(Answer::refusal(number, self.line))
+    }
+
+    fn graph(&mut self, table: &mut Table, index: usize) -> Result<(), Answer> {
+        let period = self.number_line(PERIOD)?;
+        let offset = self.number_line(OFFSET)?;
+        let nodes = self.number_line(NODES)? as usize;
+        let first = table.node_count;
+        if first + nodes > Table::NODES {
+            return self.refuse(3);
+        }
+        table.node_count += nodes;
+        table.graphs[index] = Graph { period, offset, first, nodes };
+        let mut without_successor = (1u32 << (nodes - 1)) - 1;
+        for own in 0..nodes {
+            let budget = self.number_line(BUDGET)?;
+            let level = self.number_line(LEVEL)?;
+            let after = self.after_line(own as u32)?;
+            without_successor &= !after;
+            table.nodes[first + own] = Node { budget, level, after };
+        }
+        if without_successor != 0 { self.refuse(4) } else { Ok(()) }
+    }
+
+    /// Moves past `expected`, if it stands at the position.
+    fn take(&mut self, expected: &[u8]) -> bool {
+        let stands = self.bytes[self.position..].starts_with(expected);
+        if stands {
+            self.position += expected.len();
+        }
+        stands
+    }
+
+    /// Begins the next line with its key.
+    fn begin(&mut self, key: &[u8]) -> Result<(), Answer> {
+        self.line += 1;
+        if self.take(key) { Ok(()) } else { self.refuse(2) }
+    }
+
+    fn number_line(&mut self, (key, least, largest): Key) -> Result<u32, Answer> {
+        self.begin(key)?;
+        let Some(value) = self.number() else { return self.refuse(2) };
+        if !self.take(b"\n") {
+            return self.refuse(2);
+        }
+        if value < least || value > largest { self.refuse(3) } else { Ok(value) }
+    }
+
+    /// Digits with no leading zero; a value too large stays too large.
+    fn number(&mut self) -> Option<u32> {
+        let start = self.position;
+        let mut value = 0;
+        while let Some(digit) = self.bytes.get(self.position).filter(|byte| byte.is_ascii_digit()) {
+            value = (value * 10 + u32::from(digit - b'0')).min(TOO_LARGE);
+            self.position += 1;
+        }
+        let digits = &self.bytes[start..self.position];
+        let well_spelled = !digits.is_empty() && (digits.len() == 1 || digits[0] != b'0');
+        well_spelled.then_some(value)
+    }
+
+    /// The mask of predecessors of the node at place `own` in its graph.
+    fn after_line(&mut self, own: u32) -> Result<u32, Answer> {
+        self.begin(AFTER)?;
+        if self.take(b"none\n") {
+            return if own == 0 { Ok(0) } else { self.refuse(4) };
+        }
+        let (mut mask, mut last, mut kept) = (0, 0, true);
+        loop {
+            let Some(number) = self.number() else { return self.refuse(2) };
+            kept &= number > last && number <= own;
+            if kept {
+                mask |= 1 << (number - 1);
+            }
+            last = number;
+            if self.take(b"\n") {
+                return if kept { Ok(mask) } else { self.refuse(4) };
+            }
+            if !self.take(b",") {
+                return self.refuse(2);
+            }
+        }
+    }
+}

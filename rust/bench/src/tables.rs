@@ -1,0 +1,140 @@
+//! The tables that are walked.
+
+use simulator::{Graph, Node, Table};
+
+/// A table with a name to print it under.
+pub struct Case {
+    pub name: String,
+    pub text: Vec<u8>,
+}
+
+impl Case {
+    fn new(name: impl Into<String>, table: &Table) -> Case {
+        Case { name: name.into(), text: table.text().into_bytes() }
+    }
+}
+
+/// The largest legal walk that still gets an answer: 8 processors, 32 nodes,
+/// H 20,000, offset 10,000, and settled just at round 64, at 1,290,000 ticks.
+/// It was found by a search through random tables. The server of graph 1 must
+/// run in every tick at level 1 and loses some to earlier deadlines, so that
+/// the state goes on changing until it is late enough to lose none.
+const LARGEST: &[u8] = include_bytes!("../tables/largest.txt");
+
+fn node(budget: u32, level: u32, after: &[u32]) -> Node {
+    Node { budget, level, after: after.to_vec() }
+}
+
+/// A chain of nodes of one level.
+fn chain(period: u32, offset: u32, level: u32, budgets: &[u32]) -> Graph {
+    let nodes = (0..).zip(budgets).map(|(before, &budget)| match before {
+        0 => node(budget, level, &[]),
+        _ => node(budget, level, &[before]),
+    });
+    Graph { period, offset, nodes: nodes.collect() }
+}
+
+/// The worked tables of document 01 that are walked.
+pub fn document() -> Vec<Case> {
+    let one = |processors, rounds, graph| Table { processors, rounds, graphs: vec![graph] };
+    let two = |one, other| Table { processors: 1, rounds: 64, graphs: vec![one, other] };
+    vec![
+        Case::new("one node of 1", &one(1, 64, chain(4, 0, 1, &[1]))),
+        Case::new("chain 1, 1", &one(1, 64, chain(4, 0, 1, &[1, 1]))),
+        Case::new("chain 2, 2", &one(1, 64, chain(4, 0, 1, &[2, 2]))),
+        Case::new("chain 4, 4", &one(2, 64, chain(4, 0, 1, &[4, 4]))),
+        Case::new("3 in 2, level 2", &one(2, 64, chain(2, 0, 2, &[3]))),
+        Case::new("3 in 2, level 1, 46 rounds", &one(2, 46, chain(2, 0, 1, &[3]))),
+        Case::new("3 in 2, level 1, 47 rounds", &one(2, 47, chain(2, 0, 1, &[3]))),
+        Case::new("two graphs of 1", &two(chain(4, 0, 1, &[1]), chain(4, 0, 1, &[1]))),
+        Case::new("two graphs, offset", &two(chain(4, 0, 1, &[2]), chain(8, 1, 1, &[3]))),
+        Case::new("period 10,000", &one(1, 64, chain(10_000, 0, 1, &[1]))),
+    ]
+}
+
+/// The longest walks there are.
+pub fn largest() -> Vec<Case> {
+    vec![
+        Case { name: "settled at round 64".into(), text: LARGEST.to_vec() },
+        Case::new("unsettled after 64", &drifting(8, 4, 64)),
+    ]
+}
+
+/// A box as it may stand in a turbine: four processors, ticks of 50
+/// microseconds, pitch, loads, yaw, condition monitoring and log.
+pub fn turbine() -> Vec<Case> {
+    let pitch = chain(200, 0, 1, &[8, 24, 30, 12, 6]);
+    let loads = Graph {
+        period: 400,
+        offset: 20,
+        nodes: vec![
+            node(20, 1, &[]),
+            node(60, 1, &[1]),
+            node(55, 1, &[1]),
+            node(70, 1, &[1]),
+            node(90, 1, &[2, 3, 4]),
+            node(15, 1, &[5]),
+        ],
+    };
+    let yaw = chain(2_000, 100, 1, &[40, 120, 60, 30]);
+    let monitoring = Graph {
+        period: 2_000,
+        offset: 0,
+        nodes: vec![
+            node(200, 1, &[]),
+            node(900, 2, &[1]),
+            node(700, 2, &[1]),
+            node(400, 1, &[2, 3]),
+            node(100, 1, &[4]),
+        ],
+    };
+    let log = chain(4_000, 50, 1, &[300, 500]);
+    let table = Table { processors: 4, rounds: 64, graphs: vec![pitch, loads, yaw, monitoring, log] };
+    vec![Case::new("turbine box", &table)]
+}
+
+/// Periods whose hyperperiod is 20,000.
+const PERIODS: [u32; 8] = [4_000, 10_000, 5_000, 2_500, 1_000, 625, 500, 160];
+
+/// Graphs of `nodes` nodes each, with offset 10,000, that never settle: the
+/// first server needs a tick more than its period and may not overlap, so it
+/// is later by a tick in each. The others load most of the other seven processors.
+fn drifting(graphs: usize, nodes: usize, rounds: u32) -> Table {
+    let others = (graphs * nodes - 1).max(1) as u32;
+    let graph = |(index, &period): (usize, &u32)| {
+        let budget = (period * 67 / 10 / others).clamp(1, period);
+        let mut budgets = vec![budget; nodes];
+        if index == 0 {
+            budgets[0] = period + 1;
+        }
+        chain(period, if index == 0 { 10_000 } else { 7 * index as u32 }, 1, &budgets)
+    };
+    let graphs = PERIODS[..graphs].iter().enumerate().map(graph).collect();
+    Table { processors: 8, rounds, graphs }
+}
+
+/// One table with more and more rounds, so with more and more ticks.
+pub fn by_ticks() -> Vec<Case> {
+    [1, 2, 4, 8, 16, 32, 64]
+        .map(|rounds| Case::new(format!("{rounds} rounds"), &drifting(8, 4, rounds)))
+        .into()
+}
+
+/// More and more nodes on 8 processors.
+pub fn by_nodes() -> Vec<Case> {
+    [(2, 1), (2, 2), (4, 2), (8, 2), (8, 3), (8, 4)]
+        .map(|(graphs, nodes)| Case::new(format!("{} nodes", graphs * nodes), &drifting(graphs, nodes, 8)))
+        .into()
+}
+
+/// 32 nodes that load nine tenths of more and more processors.
+pub fn by_processors() -> Vec<Case> {
+    let table = |processors: u32| {
+        let graph = |(index, &period): (usize, &u32)| {
+            let budget = (period * processors * 9 / 320).max(1);
+            chain(period, 7 * index as u32, 1, &[budget; 4])
+        };
+        Table { processors, rounds: 8, graphs: PERIODS.iter().enumerate().map(graph).collect() }
+    };
+    [1, 2, 4, 8].map(|processors| Case::new(format!("{processors} processors"), &table(processors))).into()
+}

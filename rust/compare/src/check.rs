@@ -1,0 +1,91 @@
+//! All the calls made on one table.
+
+use crate::call::{Difference, Question, difference};
+use crate::library::Library;
+use generator::Rng;
+use simulator::Reply;
+use simulator::question::Answered;
+
+/// How much is asked of the library for one table.
+#[derive(Clone, Copy, Debug, PartialEq, Eq)]
+pub struct Effort {
+    /// Ticks the library may walk for the table, beyond a few calls that are
+    /// always made.
+    pub ticks: u64,
+    /// Every instant below this is asked, if it is before the stop, and with
+    /// them every instant far past it; if this is 0, only one of those is.
+    pub first_instants: u64,
+}
+
+impl Effort {
+    /// For many tables.
+    pub const USUAL: Effort = Effort { ticks: 12_000, first_instants: 0 };
+    /// For the steps of shrinking one table.
+    pub const SHRINKING: Effort = Effort { ticks: 100_000, first_instants: 300 };
+}
+
+/// What came of a table: how many calls, and the first difference.
+pub struct Checked {
+    pub report: Reply,
+    pub calls: u64,
+    pub difference: Option<Difference>,
+}
+
+pub fn check(library: &dyn Library, table: &[u8], effort: Effort, rng: &mut Rng) -> Checked {
+    let answered = Answered::new(table);
+    let report = answered.report();
+    let mut calls = 0;
+    let mut first = None;
+    let mut ask = |question, reply: &Reply, length| {
+        if first.is_none() {
+            calls += 1;
+            first = difference(library, table, question, reply, length);
+        }
+    };
+    let ticks = u64::from(answered.ticks().unwrap_or(0));
+    let affordable = (effort.ticks / (ticks + 1)) as usize;
+    for length in report_lengths(&report, affordable / 2, rng) {
+        ask(Question::Report, &report, length);
+    }
+    for instant in instants(answered.ticks(), affordable, effort, rng) {
+        let reply = answered.row(instant);
+        for length in row_lengths(&reply, rng) {
+            ask(Question::Row(instant), &reply, length);
+        }
+    }
+    Checked { report, calls, difference: first }
+}
+
+/// Every length from 0 to past the text's, or those next to it and some.
+fn report_lengths(reply: &Reply, affordable: usize, rng: &mut Rng) -> Vec<usize> {
+    let Reply::Text(text) = reply else { return vec![0, rng.below(300)] };
+    let length = text.len();
+    if length + 4 <= affordable {
+        return (0..length + 4).collect();
+    }
+    vec![0, length - 1, length, length + 1, rng.below(length), length + rng.below(100)]
+}
+
+/// One long enough, and one that may be anything around the text's length; on
+/// a refusal a short and a long one.
+fn row_lengths(reply: &Reply, rng: &mut Rng) -> [usize; 2] {
+    match reply {
+        Reply::Text(text) => [text.len() + rng.pick(&[0, 1, 150]), rng.below(text.len() + 3)],
+        Reply::Refused { .. } => [rng.below(4), 250],
+    }
+}
+
+/// Instants at the ends of the walk, inside it, and far past it.
+fn instants(ticks: Option<u32>, affordable: usize, effort: Effort, rng: &mut Rng) -> Vec<u64> {
+    let Some(ticks) = ticks.map(u64::from) else { return vec![0, rng.draw()] };
+    let far = [u64::MAX, 1 << 32, (1 << 32) + rng.draw() % (ticks + 1), 1 << 63, rng.draw()];
+    let mut instants = vec![0, ticks, rng.pick(&far)];
+    instants.extend(ticks.checked_sub(1));
+    if effort.first_instants > 0 {
+        instants.extend(far);
+        instants.extend(0..effort.first_instants.min(ticks));
+    }
+    let inside = if ticks == 0 { 0 } else { affordable.clamp(2, 24) };
+    instants.extend((0..inside).map(|_| rng.draw() % ticks.max(1)));
+    instants
+}

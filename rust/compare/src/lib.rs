@@ -1,0 +1,17 @@
+//! Compares a library with the second simulator over generated tables.
+//!
+//! - `library`: what is compared, the proved library or a stand-in;
+//! - `call`: one call, its answer and every byte around it;
+//! - `check`: all the calls made on one table;
+//! - `shrink`, `loose`: a smaller table with the same difference;
+//! - `run`: the tables of a range of seeds, and the summary;
+//! - `options`: the command line.
+#![forbid(unsafe_code)]
+
+pub mod call;
+pub mod check;
+pub mod library;
+pub mod loose;
+pub mod options;
+pub mod run;
+pub mod shrink;

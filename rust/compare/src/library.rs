@@ -1,0 +1,69 @@
+//! What is compared with the second simulator.
+
+use baseline::Pace;
+use simulator::Answer;
+
+/// The two calls with a lent buffer.
+pub trait Library {
+    fn name(&self) -> &str;
+    fn report(&self, table: &[u8], buffer: &mut [u8]) -> Answer;
+    fn row(&self, table: &[u8], instant: u64, buffer: &mut [u8]) -> Answer;
+}
+
+/// A plain engine at one of its paces, in the proved library's place.
+pub struct Plain(pub Pace);
+
+impl Library for Plain {
+    fn name(&self) -> &str {
+        match self.0 {
+            Pace::Tick => "tick",
+            Pace::Event => "event",
+        }
+    }
+
+    fn report(&self, table: &[u8], buffer: &mut [u8]) -> Answer {
+        let baseline::Answer { number, line, length } = baseline::report(self.0, table, buffer);
+        Answer { number, line, length }
+    }
+
+    fn row(&self, table: &[u8], instant: u64, buffer: &mut [u8]) -> Answer {
+        let baseline::Answer { number, line, length } = baseline::row(self.0, table, instant, buffer);
+        Answer { number, line, length }
+    }
+}
+
+/// The proved library, through its C interface.
+#[cfg(feature = "proved")]
+pub struct Proved;
+
+#[cfg(feature = "proved")]
+impl Library for Proved {
+    fn name(&self) -> &str {
+        "proved"
+    }
+
+    fn report(&self, table: &[u8], buffer: &mut [u8]) -> Answer {
+        let phalandrix::Answer { number, line, length } = phalandrix::report(table, buffer);
+        Answer { number, line, length }
+    }
+
+    fn row(&self, table: &[u8], instant: u64, buffer: &mut [u8]) -> Answer {
+        let phalandrix::Answer { number, line, length } = phalandrix::row(table, instant, buffer);
+        Answer { number, line, length }
+    }
+}
+
+/// The names `by_name` knows, the default first.
+pub fn names() -> &'static [&'static str] {
+    if cfg!(feature = "proved") { &["proved", "tick", "event"] } else { &["tick", "event"] }
+}
+
+pub fn by_name(name: &str) -> Option<Box<dyn Library>> {
+    match name {
+        "tick" => Some(Box::new(Plain(Pace::Tick))),
+        "event" => Some(Box::new(Plain(Pace::Event))),
+        #[cfg(feature = "proved")]
+        "proved" => Some(Box::new(Proved)),
+        _ => None,
+    }
+}

@@ -1,0 +1,25 @@
+//! Both plain engines give the second simulator's answers.
+
+use baseline::Pace;
+use compare::library::{Library, Plain};
+use compare::options::Options;
+use compare::run::run;
+
+fn agrees(library: &dyn Library, seed: u64) {
+    let options = Options { seed, count: 2_000, force: 0, against: library.name().to_string() };
+    let summary = run(library, &options).unwrap_or_else(|fault| panic!("{fault}"));
+    assert_eq!(summary.tables, 2_000);
+    assert_eq!(summary.reports.iter().sum::<u64>(), 2_000);
+    assert!(summary.reports.iter().all(|&count| count > 0), "{summary}");
+    assert!(summary.calls > 50_000, "{summary}");
+}
+
+#[test]
+fn tick_by_tick() {
+    agrees(&Plain(Pace::Tick), 1_000_000);
+}
+
+#[test]
+fn event_to_event() {
+    agrees(&Plain(Pace::Event), 2_000_000);
+}

@@ -1,0 +1,19 @@
+//! Tables from a seed, spread on purpose over the kinds listed in `kinds`.
+//!
+//! - `rng`: the numbers drawn;
+//! - `shapes`: predecessor lists of every shape;
+//! - `fill`: budgets that bring a table to a wanted load;
+//! - `kinds`: one maker per kind of table;
+//! - `limits`: tables at a limit or one past it;
+//! - `damage`: texts that are no tables any more.
+#![forbid(unsafe_code)]
+
+pub mod damage;
+pub mod fill;
+pub mod kinds;
+pub mod limits;
+pub mod rng;
+pub mod shapes;
+
+pub use kinds::{Kind, Made, make};
+pub use rng::Rng;

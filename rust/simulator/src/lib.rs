@@ -1,0 +1,32 @@
+//! The independent second simulator of the timing sheet.
+//!
+//! It is written from the text of document 01 alone: absolute instants, server
+//! job numbers, job numbers and whole histories. There is no window, and no
+//! relative state except the state at boundaries, formed as the document
+//! writes it. Rule numbers in comments are those of its section "The schedule".
+//!
+//! - `limits`, `table`, `reader`: the table and how its bytes are read;
+//! - `load`: the hyperperiod and the load;
+//! - `schedule`: rules 1 to 6 over whole histories (`history`);
+//! - `state`, `walk`: the state at a boundary and where the walk stops;
+//! - `reply`, `text`: answers, refusals and the lent buffer;
+//! - `question`: the two calls;
+//! - `demand3`: the figure checked by force.
+#![forbid(unsafe_code)]
+
+pub mod demand3;
+pub mod history;
+pub mod limits;
+pub mod load;
+pub mod question;
+pub mod reader;
+pub mod reply;
+pub mod schedule;
+pub mod state;
+pub mod table;
+pub mod text;
+pub mod walk;
+
+pub use question::{report, row};
+pub use reply::{Answer, Refusal, Reply, lend};
+pub use table::{Graph, Node, Table};

@@ -1,0 +1,61 @@
+/* Both calls from C, on document 01's 12-line table: the text, the answer, and every byte of the buffer around the text. */
+#include "phalandrix.h"
+
+#include <stdio.h>
+#include <string.h>
+
+static const char table[] =
+    "processors=1\nrounds=2\ngraphs=1\nperiod=4\noffset=0\nnodes=2\n"
+    "budget=1\nlevel=1\nafter=none\nbudget=1\nlevel=1\nafter=1\n";
+static const char report[] = "answer=0\nround=2\nticks=8\nresponse=6\n";
+static const char row[] = "run=1,1,2,2\n";
+
+enum { ROOM = 256, UNTOUCHED = 0xA5 };
+
+static int failures;
+
+/* One call's answer and buffer beside what they should be: the text, then untouched bytes. */
+static void expect(const char *name, phalandrix_answer a, const uint8_t *buffer, uint32_t number, uint32_t line, const char *text)
+{
+    size_t length = strlen(text);
+    int fine = a.number == number && a.line == line && a.length == length && memcmp(buffer, text, length) == 0;
+
+    for (size_t i = length; i < ROOM; i++)
+        fine = fine && buffer[i] == UNTOUCHED;
+    if (!fine) {
+        printf("%s: number %u, line %u, length %zu\n", name, (unsigned)a.number, (unsigned)a.line, a.length);
+        failures++;
+    }
+}
+
+static phalandrix_answer report_in(uint8_t *buffer, const char *bytes, size_t room)
+{
+    memset(buffer, UNTOUCHED, ROOM);
+    return phalandrix_report((const uint8_t *)bytes, strlen(bytes), buffer, room);
+}
+
+static phalandrix_answer row_in(uint8_t *buffer, uint64_t instant, size_t room)
+{
+    memset(buffer, UNTOUCHED, ROOM);
+    return phalandrix_row((const uint8_t *)table, strlen(table), instant, buffer, room);
+}
+
+int main(void)
+{
+    uint8_t b[ROOM];
+    size_t n = strlen(report);
+
+    expect("report", report_in(b, table, ROOM), b, PHALANDRIX_ANSWERED, 0, report);
+    expect("report that just fits", report_in(b, table, n), b, PHALANDRIX_ANSWERED, 0, report);
+    expect("report one byte too long", report_in(b, table, n - 1), b, PHALANDRIX_SHORT_BUFFER, 0, "");
+    expect("report of no bytes", report_in(b, "", ROOM), b, PHALANDRIX_MISSPELLED, 1, "");
+    expect("report past a limit", report_in(b, "processors=1\nrounds=0\n", ROOM), b, PHALANDRIX_OUTSIDE_LIMITS, 2, "");
+    expect("row at 4", row_in(b, 4, ROOM), b, PHALANDRIX_ANSWERED, 0, row);
+    expect("row at the stop", row_in(b, 8, ROOM), b, PHALANDRIX_PAST_THE_STOP, 0, "");
+    expect("row past 2^32", row_in(b, UINT64_MAX, ROOM), b, PHALANDRIX_PAST_THE_STOP, 0, "");
+    expect("row in no buffer", row_in(b, 4, 0), b, PHALANDRIX_SHORT_BUFFER, 0, "");
+    expect("nothing at all", (memset(b, UNTOUCHED, ROOM), phalandrix_report(NULL, 0, NULL, 0)), b, PHALANDRIX_MISSPELLED, 1, "");
+    if (failures == 0)
+        printf("both calls from C: as they should be\n");
+    return failures != 0;
+}
