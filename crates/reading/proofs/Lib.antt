@@ -10,3 +10,4 @@ pub mod Members
 pub mod MemoryLaws
 pub mod Loads
 pub mod Admissions
+pub mod Spelled

@@ -1,0 +1,78 @@
+// The program: a table on standard input; on standard output its report or, with `row T`, its row at instant T.
+mod input;
+mod output;
+
+use input::Input;
+use input::read_table;
+use libc::STDERR_FILENO;
+use output::print_answer;
+use reading::Instant;
+use table::Table;
+
+// One byte more than a table may have: no more is read of a longer one, and that is enough to refuse it.
+const TABLE_ROOM: usize = Table::TABLE_BYTES_TO as usize + 1;
+
+// More than a system passes as one argument.
+const ARGUMENT_ROOM: usize = 131_072;
+
+fn print_usage() {
+    io::write_all(
+        STDERR_FILENO,
+        b"usage: phalandrix < TABLE          the report\n       phalandrix row T < TABLE    the row at instant T\n",
+    );
+}
+
+fn answer_report() {
+    let mut space = [0u8; TABLE_ROOM];
+    let mut text = io::buffer();
+    match read_table(&mut space) {
+        Input::Failed => os::fail(b"standard input"),
+        Input::Bytes(n) => {
+            let a = sheet::report(&space[..n], &mut text);
+            print_answer(a, &text);
+        }
+    }
+}
+
+fn answer_row(instant: u32) {
+    let mut space = [0u8; TABLE_ROOM];
+    let mut text = io::buffer();
+    match read_table(&mut space) {
+        Input::Failed => os::fail(b"standard input"),
+        Input::Bytes(n) => {
+            let a = sheet::row(&space[..n], instant as u64, &mut text);
+            print_answer(a, &text);
+        }
+    }
+}
+
+// Whether the first argument is `row`.
+fn asks_for_row() -> bool {
+    let mut word = [0u8; 3];
+    let n = os::arg(1, &mut word);
+    n == 3 && word[0] == b'r' && word[1] == b'o' && word[2] == b'w'
+}
+
+fn instant_asked() -> Instant {
+    let mut space = [0u8; ARGUMENT_ROOM];
+    let n = os::arg(2, &mut space);
+    reading::instant_of(&space[..n])
+}
+
+fn main() {
+    let count = os::arg_count();
+    if count == 1 {
+        answer_report();
+        return;
+    }
+    if count == 3 {
+        if asks_for_row() {
+            match instant_asked() {
+                Instant::At(t) => answer_row(t),
+                Instant::Misspelled => print_usage(),
+            }
+            return;
+        }
+    }
+    print_usage();
+}
