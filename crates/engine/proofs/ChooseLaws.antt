@@ -1,13 +1,13 @@
 -- Choosing: the keys of one server, and of one server more; a key put into a rising list.
-use mathlib.Core.Path.{_≡_, sym}
+use mathlib.Core.Path.{_≡_, refl, sym, ap, _∙_}
 use mathlib.Core.List.{List, [], _∷_, _++_, append-assoc, append-nil}
-use Prim.Native.Nat.{ℕ, suc, _+_, _≤_, _<_}
+use Prim.Native.Nat.{ℕ, zero, suc, _+_, _≤_, _<_}
 use native.Mathlib.Numerals.{add-one}
 use native.Mathlib.Omega.{arith}
 use lib.ListN.{length, getD, set, take}
-use lib.Seq.{take-suc-set}
+use lib.Seq.{take-suc-set, getD-take, length-take-le}
 use borrow.Author.Tests.{lt-ltb, le-ltb}
-use Rattle.window.specs.Choosing.{readyOf, keyOfSlot, keysOf, laidOut, Carried, carriedTo}
+use Rattle.window.specs.Choosing.{readyOf, keyOfSlot, keysOf, laidOut, Carried, carriedTo, chosen, runningKeys}
 
 -- keys laid out
 pub lay-start : (ks : List ℕ) (n : ℕ) → take (n + 0) ks ≡ take n ks ++ []
@@ -35,3 +35,18 @@ module _ (best : List ℕ) (key i : ℕ) {u : List ℕ} {k : ℕ} (e : _≡_ {A 
   pub carry-no : getD u i 0 ≤ k → _≡_ {A = Carried} (record { best = u; carry = k }) (carriedTo best key (i + 1))
   unfolding carriedTo
   carry-no h = rw (add-one i, ← e, le-ltb k (getD u i 0) h)
+
+-- of an array, only the keys that are gone through count
+chosen-of : (ks ls : List ℕ) (p m : ℕ) → take m ks ≡ ls → (j : ℕ) → j ≤ m → chosen ks p j ≡ chosen ls p j
+unfolding chosen
+chosen-of ks ls p m e zero h = refl
+chosen-of ks ls p m e (suc j) h =
+    let at : getD ks j 0 ≡ getD ls j 0 = sym (getD-take m ks j 0 h) ∙ ap (λ (l : List ℕ). getD l j 0) e in
+    rw (at, chosen-of ks ls p m e j (omega arith))
+
+pub chosen-laid : (first count level step : List ℕ) (n p : ℕ) (keys best : List ℕ) (m : ℕ) → m ≤ length keys
+    → take m keys ≡ laidOut first count level step n → best ≡ chosen keys p m → best ≡ runningKeys first count level step n p
+chosen-laid first count level step n p keys best m fits laid b =
+    let ls : List ℕ = laidOut first count level step n in
+    let many : length ls ≡ m = ap length (sym laid) ∙ length-take-le m keys fits in
+    b ∙ chosen-of keys ls p m laid m (omega arith) ∙ ap (chosen ls p) (sym many)

@@ -114,3 +114,20 @@ pub fn chosen(keys: &[u32; Table::READY], n: usize, p: usize) -> [u32; Table::RU
     }
     best
 }
+
+// The keys that run in a tick, rising (rule 5); the largest key where fewer than p are ready. `keys` is room for the layout.
+pub fn running<'a>(
+    keys: &mut [u32; Table::READY],
+    first: &'a [u32; Table::SERVERS],
+    count: &'a [u8; Table::SERVERS],
+    level: &'a [u8; Table::SERVERS],
+    step: &'a [u32; Table::SERVERS],
+    n: usize,
+    p: usize,
+) -> [u32; Table::RUNNING]
+    requires { ⌜ (length (now keys) ≡ places * Limits.level .to) × (n ≤ places) × (1 ≤ p) × (p ≤ Limits.processors .to) ⌝ }
+    ensures { λ r. ⌜ (length (now (keys .exit)) ≡ places * Limits.level .to) × (r ≡ Mirror.runningKeys (now (first .entry)) (now (count .entry)) (now (level .entry)) (now (step .entry)) n p) ⌝ }
+{
+    let m = lay_out(&mut *keys, first, count, level, step, n);
+    chosen(keys, m, p)
+}

@@ -6,9 +6,8 @@ mod finish;
 mod release;
 mod spend;
 
-pub use choose::chosen;
-pub use choose::lay_out;
 pub use choose::next_key;
+pub use choose::running;
 pub use compare::same_states;
 pub use finish::any_done;
 pub use finish::finished;
@@ -17,4 +16,4 @@ pub use release::backlogged;
 pub use release::released;
 pub use release::smaller;
 pub use release::waited;
-pub use spend::spent;
+pub use spend::work;

@@ -1,9 +1,12 @@
 // Each server job that runs uses one tick of budget, linked or not (rule 6).
 use crate::choose::next_key;
 use crate::choose::ready_of;
+use crate::choose::running;
 use table::Table;
 ghost use mathlib.Core.Path.{_≡_};
 ghost use Prim.Native.Nat.{_+_, _*_, _-_, _≤_};
+ghost use lib.ListN.{length};
+ghost use Rattle.rules.specs.Limits as Limits;
 ghost use Rattle.window.specs.Entries.{places, window};
 ghost use Rattle.window.specs.Spending as Mirror;
 
@@ -63,4 +66,22 @@ pub fn spent<'a>(
         }
         i += 1;
     }
+}
+
+// A tick's work: each of the p server jobs that run uses one tick. `keys` is room for choosing them.
+pub fn work<'a>(
+    left: &mut [u16; Table::SLOTS],
+    keys: &mut [u32; Table::READY],
+    first: &'a [u32; Table::SERVERS],
+    count: &'a [u8; Table::SERVERS],
+    level: &'a [u8; Table::SERVERS],
+    step: &'a [u32; Table::SERVERS],
+    n: usize,
+    p: usize,
+)
+    requires { ⌜ (length (now keys) ≡ places * Limits.level .to) × (n ≤ places) × (1 ≤ p) × (p ≤ Limits.processors .to) ⌝ }
+    ensures { λ r. ⌜ (length (now (keys .exit)) ≡ places * Limits.level .to) × (now (left .exit) ≡ Mirror.workedLeft (now (left .entry)) (now (first .entry)) (now (count .entry)) (now (level .entry)) (now (step .entry)) n p) ⌝ }
+{
+    let best = running(keys, first, count, level, step, n, p);
+    spent(left, first, count, level, step, best[p - 1], n);
 }

@@ -1,3 +1,2 @@
-pub mod Best
 pub mod Entries
 pub mod Shown

@@ -21,8 +21,7 @@ pub fn best_of(plan: Plan, st: State) -> [u32; Table::RUNNING]
     let first = st.first;
     let count = st.count;
     let mut keys = [0u32; Table::READY];
-    let m = engine::lay_out(&mut keys, &first, &count, &plan.level, &plan.step, n);
-    engine::chosen(&keys, m, p)
+    engine::running(&mut keys, &first, &count, &plan.level, &plan.step, n, p)
 }
 
 // An entry more, but none for the largest key. A server job is in the row whether it is linked or not.

@@ -1,8 +1,8 @@
 -- Where the boundaries lie: with `next` the first boundary at or after t, and `round` its number, t is a boundary after the first exactly
 -- when it is `next` and `round` is not 0; and it is the last one exactly when it is `next` and `round` is `rounds`.
-use mathlib.Core.Path.{_≡_, refl, sym, ap, _∙_}
-use mathlib.Core.Bool.{Bool, true, false, _&&_}
-use Prim.Native.Nat.{ℕ, zero, suc, _+_, _*_, _-_, _/_, _%_, _≤_, _<_}
+use mathlib.Core.Path.{_≡_, refl, _∙_}
+use mathlib.Core.Bool.{true, false, _&&_}
+use Prim.Native.Nat.{ℕ, zero, suc, _+_, _*_, _-_, _%_, _≤_, _<_}
 use native.Mathlib.Nat.{zero-mul, suc-mul, add-mul-mod-self-right, mod-eq-of-lt, mul-mod-left, mul-div-cancel, mul-le-mul-right, mul-lt-mul-of-pos-right}
 use native.Mathlib.Nat.{mul-pos}
 use native.Mathlib.Omega.{arith}

@@ -1,8 +1,8 @@
 -- One instant of `walkFrom`, by the tests in the order in which the code makes them: what each way through an instant comes to.
-use mathlib.Core.Path.{_≡_, refl, sym, ap, _∙_}
-use mathlib.Core.Bool.{Bool, true, false, _&&_, cond}
+use mathlib.Core.Path.{_≡_, refl, _∙_}
+use mathlib.Core.Bool.{true, false, _&&_, cond}
 use mathlib.Core.List.{List}
-use mathlib.Core.Logic.{_⊎_, inl, inr}
+use mathlib.Core.Logic.{_⊎_}
 use Prim.Native.Nat.{ℕ, suc, _+_, _*_, _-_, _≤_, _<_}
 use native.Mathlib.Numerals.{add-one}
 use native.Mathlib.Omega.{arith}
@@ -17,7 +17,6 @@ use Rattle.window.specs.Releasing.{anyReleases, backlogged, released}
 use Rattle.window.specs.Choosing.{nextKey}
 use Rattle.window.specs.Comparing.{sameStates}
 use Rattle.window.specs.Ticking.{releasedAt, worked}
-use Rattle.walking.specs.declared.How.{How}
 use Rattle.walking.specs.declared.How.the-variants.{Settled, Unsettled, Backlog, Reached}
 use Rattle.walking.specs.declared.Walk.{Walk}
 use Rattle.walking.specs.Walking.{ended, walkFrom, walkOf}

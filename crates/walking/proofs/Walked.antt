@@ -1,22 +1,21 @@
 -- What the walk over windows gives: where the rules' walk stops at or before the instant asked, that stop; else the state after the releases
 -- of the instant asked.
-use mathlib.Core.Path.{_≡_, refl, sym, ap, _∙_}
+use mathlib.Core.Path.{_≡_, ap, _∙_}
 use mathlib.Core.List.{List}
-use mathlib.Core.Option.{none, some}
+use mathlib.Core.Option.{some}
 use mathlib.Core.Logic.{_⊎_, inl, inr}
 use Prim.Native.Nat.{ℕ, _+_, _*_, _≤_, _<_}
 use native.Mathlib.Omega.{arith}
 use lib.ListN.{length, getD}
 use Rattle.rules.specs.Servers.{Box, srv, whole}
-use Rattle.rules.specs.Walk.{Stop, Stopped, stopped, stopAt}
+use Rattle.rules.specs.Walk.{Stopped, stopped}
 use Rattle.rules.proofs.Tests.{by-lt, either-way}
-use Rattle.rules.proofs.Unique.{FirstStop, first-stop-is-unique}
+use Rattle.rules.proofs.Unique.{first-stop-is-unique}
 use Rattle.rules.proofs.FirstStop.{stopped-is-first}
 use Rattle.window.specs.declared.Plan.{Plan}
 use Rattle.window.specs.Entries.{places}
 use Rattle.window.proofs.Relation.{lastInstant, Fits, InStep, Released}
 use Rattle.window.proofs.Fresh.{fresh-in-step}
-use Rattle.walking.specs.declared.How.{How}
 use Rattle.walking.specs.declared.How.the-variants.{Reached}
 use Rattle.walking.specs.declared.Walk.{Walk}
 use Rattle.walking.specs.Walking.{walkOf}

@@ -1,5 +1,5 @@
 -- The walk over windows: what `walk` computes, by recursion on the instants left as its loop goes. For the proof, not for belief.
-use mathlib.Core.Bool.{Bool, _&&_, cond}
+use mathlib.Core.Bool.{_&&_, cond}
 use mathlib.Core.List.{List}
 use Prim.Native.Nat.{ℕ, zero, suc, _+_, _*_}
 use lib.Dec.{ltb, eqb}

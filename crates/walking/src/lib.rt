@@ -22,6 +22,12 @@ pub struct Walk {
     pub state: State,
 }
 
+pub fn ended(how: How, ticks: u32, state: State) -> Walk
+    ensures { λ r. ⌜ r ≡ Mirror.ended how ticks state ⌝ }
+{
+    Walk { how, ticks, state }
+}
+
 // Boundaries are tested before the backlog, and the instant asked after both. The tick's work is done in place: no copy of the state.
 pub fn walk_to(
     plan: Plan,
@@ -46,21 +52,11 @@ pub fn walk_to(
     let mut t: u32 = 0;
     while t <= last {
         if t == next {
-            if 0 < round {
-                if engine::same_states(st, saved, n) {
-                    return Walk {
-                        how: How::Settled(round),
-                        ticks: t,
-                        state: st,
-                    };
-                }
+            if 0 < round && engine::same_states(st, saved, n) {
+                return ended(How::Settled(round), t, st);
             }
             if round == rounds {
-                return Walk {
-                    how: How::Unsettled,
-                    ticks: t,
-                    state: st,
-                };
+                return ended(How::Unsettled, t, st);
             }
             saved = st;
             round += 1;
@@ -68,34 +64,25 @@ pub fn walk_to(
         }
         if engine::any_releases(&st.until, n) {
             if engine::backlogged(plan, st) {
-                return Walk {
-                    how: How::Backlog,
-                    ticks: t,
-                    state: st,
-                };
+                return ended(How::Backlog, t, st);
             }
             st = engine::released(plan, t, st);
         }
         if t == asked {
-            return Walk {
-                how: How::Reached,
-                ticks: t,
-                state: st,
-            };
+            return ended(How::Reached, t, st);
         }
         let until = st.until;
         let first = st.first;
         let count = st.count;
-        let m = engine::lay_out(&mut keys, &first, &count, &plan.level, &plan.step, n);
-        let best = engine::chosen(&keys, m, p);
-        engine::spent(
+        engine::work(
             &mut st.left,
+            &mut keys,
             &first,
             &count,
             &plan.level,
             &plan.step,
-            best[p - 1],
             n,
+            p,
         );
         if engine::any_done(&st.left, &st.count, n) {
             st = engine::finished(plan, t + 1, st);
@@ -104,9 +91,5 @@ pub fn walk_to(
         st.until = w;
         t += 1;
     }
-    Walk {
-        how: How::Unsettled,
-        ticks: t,
-        state: st,
-    }
+    ended(How::Unsettled, t, st)
 }

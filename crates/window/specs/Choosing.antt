@@ -1,9 +1,9 @@
 -- The ready server jobs laid out by their keys, and the first `processors` of them chosen: what the engine's functions compute.
-use mathlib.Core.Bool.{Bool, cond}
+use mathlib.Core.Bool.{cond}
 use mathlib.Core.List.{List, [], _∷_, _++_}
 use Prim.Native.Nat.{ℕ, zero, suc, _+_, _-_, min}
 use lib.Dec.{ltb}
-use lib.ListN.{getD, set, replicate}
+use lib.ListN.{length, getD, set, replicate}
 use Rattle.rules.specs.Limits as Limits
 use Rattle.window.specs.Entries.{lastKey}
 
@@ -51,3 +51,9 @@ module _ (keys : List ℕ) (p : ℕ) where
   unfoldable pub chosen : ℕ → List ℕ
   chosen zero = replicate (Limits.processors .to) lastKey
   chosen (suc n) = inserted (chosen n) p (getD keys n 0)
+
+-- of the ready server jobs of the first n servers
+abbrev pub runningKeys : (first count level step : List ℕ) → (n p : ℕ) → List ℕ
+runningKeys first count level step n p =
+    let keys : List ℕ = laidOut first count level step n in
+    chosen keys p (length keys)

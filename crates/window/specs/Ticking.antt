@@ -1,24 +1,21 @@
 -- One tick, from the state after the releases of t to the state at t + 1: what the engine's functions compute together.
-use mathlib.Core.Bool.{Bool, cond}
+use mathlib.Core.Bool.{cond}
 use mathlib.Core.List.{List}
-use Prim.Native.Nat.{ℕ, suc, _+_, _-_, min}
+use Prim.Native.Nat.{ℕ, _+_, _-_}
 use lib.Dec.{eqb}
-use lib.ListN.{getD, length}
-use Rattle.rules.specs.Limits as Limits
+use lib.ListN.{getD}
 use Rattle.table.specs.declared.State.{State}
 use Rattle.window.specs.declared.Plan.{Plan}
-use Rattle.window.specs.Entries.{places, periodAt, untilAt, nodesOf}
+use Rattle.window.specs.Entries.{places, nodesOf}
 use Rattle.window.specs.Loops.{replaced}
 use Rattle.window.specs.Releasing.{anyReleases, released}
-use Rattle.window.specs.Choosing.{laidOut, chosen}
+use Rattle.window.specs.Choosing.{runningKeys}
 use Rattle.window.specs.Spending.{spent}
 use Rattle.window.specs.Finishing.{finished}
 
 -- the server jobs that run, by their keys, rising; the largest key where there are fewer than `processors`
 unfoldable pub running : Plan → State → List ℕ
-running plan st =
-    let keys : List ℕ = laidOut (st .first) (st .count) (plan .level) (plan .step) (nodesOf plan) in
-    chosen keys (plan .processors) (length keys)
+running plan st = runningKeys (st .first) (st .count) (plan .level) (plan .step) (nodesOf plan) (plan .processors)
 
 -- the last key that runs
 abbrev pub limitOf : Plan → State → ℕ

@@ -7,8 +7,6 @@ use Rattle.window.specs.Releasing.{allFewer}
 use Rattle.engine.proofs.ReleaseLaws.{fewer-none, fewer-no, fewer-yes, low-place, low-set, low-off}
 use Rattle.engine.proofs.release.all_fewer.Statement.{statement}
 use Rattle.engine.proofs.release.all_fewer.Tie as tie
-use Rattle.numbers.proofs.lowest.Reads as lowest-reads
-use Rattle.numbers.proofs.without.Reads as without-reads
 
 abbrev Inv-loop : tie.InvT-loop
 Inv-loop unfinished after unlinked m₀ m = (m < 2 ^ width) × (allFewer unfinished after unlinked ≡ allFewer unfinished m unlinked)
