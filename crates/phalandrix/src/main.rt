@@ -7,6 +7,7 @@ use input::read_table;
 use libc::STDERR_FILENO;
 use output::print_answer;
 use reading::Instant;
+use rules::Answer;
 use table::Table;
 
 // One byte more than a table may have: no more is read of a longer one, and that is enough to refuse it.
@@ -22,25 +23,25 @@ fn print_usage() {
     );
 }
 
-fn answer_report() {
-    let mut space = [0u8; TABLE_ROOM];
-    let mut text = io::buffer();
-    match read_table(&mut space) {
-        Input::Failed => os::fail(b"standard input"),
-        Input::Bytes(n) => {
-            let a = sheet::report(&space[..n], &mut text);
-            print_answer(a, &text);
-        }
+enum Question {
+    Report,
+    Row(u32),
+}
+
+fn asked(q: Question, table: &[u8], text: &mut [u8]) -> Answer {
+    match q {
+        Question::Report => sheet::report(table, text),
+        Question::Row(instant) => sheet::row(table, instant as u64, text),
     }
 }
 
-fn answer_row(instant: u32) {
+fn answer(q: Question) {
     let mut space = [0u8; TABLE_ROOM];
     let mut text = io::buffer();
     match read_table(&mut space) {
         Input::Failed => os::fail(b"standard input"),
         Input::Bytes(n) => {
-            let a = sheet::row(&space[..n], instant as u64, &mut text);
+            let a = asked(q, &space[..n], &mut text);
             print_answer(a, &text);
         }
     }
@@ -62,13 +63,13 @@ fn instant_asked() -> Instant {
 fn main() {
     let count = os::arg_count();
     if count == 1 {
-        answer_report();
+        answer(Question::Report);
         return;
     }
     if count == 3 {
         if asks_for_row() {
             match instant_asked() {
-                Instant::At(t) => answer_row(t),
+                Instant::At(t) => answer(Question::Row(t)),
                 Instant::Misspelled => print_usage(),
             }
             return;

@@ -5,9 +5,6 @@ use lib.ListN.{length}
 use borrow.Author.Needs.{needs}
 use Rattle.phalandrix.proofs.input.read_table.Statement.{statement}
 use Rattle.phalandrix.proofs.input.read_table.Tie as tie
-use Rattle.phalandrix.proofs.input.read_table.Reads as reads
-use Rattle.phalandrix.proofs.input.read_table.Lts as lts
-use Rattle.phalandrix.proofs.input.read_more.Reads as read-more-reads
 
 abbrev Inv-loop : tie.InvT-loop
 Inv-loop space₀ done₀ space done = (length space ≡ length space₀) × (done ≤ length space)

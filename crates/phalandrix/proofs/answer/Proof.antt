@@ -1,16 +1,9 @@
--- `answer_report` meets its contract: no more bytes are passed on than were read.
+-- `answer` meets its contract: no more bytes are passed on than were read.
 use mathlib.Core.Path.{sym}
 use lib.Seq.{length-take-le}
 use borrow.Author.Needs.{needs}
-use Rattle.phalandrix.proofs.answer_report.Statement.{statement}
-use Rattle.phalandrix.proofs.answer_report.Tie as tie
-use Rattle.phalandrix.proofs.answer_report.Reads as reads
-use Rattle.phalandrix.proofs.answer_report.Lts as lts
-use Rattle.io.proofs.buffer.Reads as buffer-reads
-use Rattle.os.proofs.fail.Reads as fail-reads
-use Rattle.phalandrix.proofs.input.read_table.Reads as read-table-reads
-use Rattle.phalandrix.proofs.output.print_answer.Reads as print-answer-reads
-use Rattle.sheet.proofs.report.Reads as report-reads
+use Rattle.phalandrix.proofs.answer.Statement.{statement}
+use Rattle.phalandrix.proofs.answer.Tie as tie
 
 buffer-requires : tie.Need-buffer-requires
 buffer-requires c κs = search needs
@@ -36,15 +29,15 @@ enum-known-n c = search needs
 array-share-prefix-space : tie.Need-array-share-prefix-space
 array-share-prefix-space c = search (needs, rw (c .before .n .given .1) at (c .before .before .before .before .read-table .ensures))
 
-slice-aggregate-report : tie.Need-slice-aggregate-report
-slice-aggregate-report c =
+slice-aggregate-asked : tie.Need-slice-aggregate-asked
+slice-aggregate-asked c =
     sym (length-take-le _ _ (search (needs, rw (c .before .before .n .given .1) at (c .before .before .before .before .before .read-table .ensures))))
 
-slice-aggregate-report-2 : tie.Need-slice-aggregate-report-2
-slice-aggregate-report-2 c = search needs
+slice-aggregate-asked-2 : tie.Need-slice-aggregate-asked-2
+slice-aggregate-asked-2 c = search needs
 
-report-requires : tie.Need-report-requires
-report-requires c κs = search needs
+asked-requires : tie.Need-asked-requires
+asked-requires c κs = search needs
 
 slice-aggregate-print-answer : tie.Need-slice-aggregate-print-answer
 slice-aggregate-print-answer c = search needs
@@ -58,8 +51,8 @@ returns c = search needs
 returns-2 : tie.Need-returns-2
 returns-2 c = search needs
 
-pub answer-report-spec : {M : Type 1} → statement M
-answer-report-spec =
+pub answer-spec : {M : Type 1} → statement M
+answer-spec =
     tie.close
     (tie.spec
     buffer-requires
@@ -70,9 +63,9 @@ answer-report-spec =
     fail-requires
     enum-known-n
     array-share-prefix-space
-    slice-aggregate-report
-    slice-aggregate-report-2
-    report-requires
+    slice-aggregate-asked
+    slice-aggregate-asked-2
+    asked-requires
     slice-aggregate-print-answer
     print-answer-requires
     returns

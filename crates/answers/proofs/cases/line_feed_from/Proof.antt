@@ -2,8 +2,8 @@
 use Prim.Native.Nat.{_-_, _≤_}
 use lib.ListN.{length}
 use borrow.Author.Needs.{needs}
-use Rattle.readings.proofs.line_feed_from.Statement.{statement}
-use Rattle.readings.proofs.line_feed_from.Tie as tie
+use Rattle.answers.proofs.cases.line_feed_from.Statement.{statement}
+use Rattle.answers.proofs.cases.line_feed_from.Tie as tie
 
 abbrev Inv-loop : tie.InvT-loop
 Inv-loop s from p₀ p = (from ≤ p) × (p ≤ length s)
