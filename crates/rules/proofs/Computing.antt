@@ -5,7 +5,7 @@ use Rattle.rules.specs.Servers.{Box, whole, ofNodes, ofGraphs, sinksOf}
 use Rattle.rules.specs.ServerJobs.{releaseOf, released, releasedBefore, priorityOf, before, complete, pending, ready, readyJobs, rank, runs, tick, used}
 use Rattle.rules.specs.Links.{finished, dueAfter, due, linked, linkNow, link, links, dueBy, finishedBy}
 use Rattle.rules.specs.State.{finishedCount, behindOf, pendingJob, pendingJobs, nodeState, phase, state}
-use Rattle.rules.specs.Walk.{Walked, crowded, overdue, backlogged, boundary, atBoundary, roundAt, stopWith, responseAt, finishing, runningAt, rowAt, walked}
+use Rattle.rules.specs.Walk.{Walked, crowded, overdue, backlogged, boundary, atBoundary, roundAt, stopWith, responseAt, finishing, runningAt, rowAt}
 use Rattle.rules.specs.WellFormed.{rising, orderly, followed, allFollowed}
 use Rattle.rules.specs.Bytes.{decimalBy, decimal}
 use Rattle.rules.specs.Keys.{keys}

@@ -1,10 +1,9 @@
 -- The decimal digits of a number: one digit below ten; else those of its tenth, and one more. So the steps of `decimalBy` never run out.
-use mathlib.Core.Path.{_≡_, refl, sym, ap, _∙_}
+use mathlib.Core.Path.{_≡_, ap}
 use mathlib.Core.List.{List, [], _∷_, _++_}
 use Prim.Native.Nat.{ℕ, zero, suc, _+_, _/_, _%_, _≤_, _<_}
 use native.Mathlib.Nat.{not-suc-le-zero}
 use native.Mathlib.Omega.{arith}
-use lib.Dec.{ltb}
 use borrow.Author.Tests.{lt-ltb, le-ltb}
 use Rattle.rules.specs.Bytes.{digitZero, decimalBy, decimal}
 use Rattle.rules.proofs.Tests.{by-lt}

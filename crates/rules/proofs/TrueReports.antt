@@ -1,18 +1,18 @@
 -- A report that is given is true: from the bytes of a table to its text, each `response=` is the least true figure of its graph.
 use mathlib.Core.Path.{_≡_, refl, sym, ap, _∙_}
 use mathlib.Core.List.{List, [], _∷_, map}
-use Prim.Native.Nat.{ℕ, zero, suc, _<_}
+use Prim.Native.Nat.{ℕ, suc}
 use native.Mathlib.Omega.{arith}
-use lib.ListN.{length, getD}
+use lib.ListN.{length}
 use Rattle.rules.specs.declared.Refusal.{Refusal}
 use Rattle.rules.specs.declared.Refusal.the-variants.{TooLong, Misspelled, OutsideLimits, AgainstPredecessorRules, LongHyperperiod, NotLoadable}
 use Rattle.rules.specs.declared.Refusal.the-variants.{Backlog, Unsettled, PastTheStop, ShortBuffer}
 use Rattle.rules.specs.Refusals.{numberOf, answerNumber}
 use Rattle.rules.specs.Table.{Table}
-use Rattle.rules.specs.Servers.{boxOf, whole}
-use Rattle.rules.specs.Walk.{Stop, settled, unsettled, backlog, Walked, stopped, figures, walked}
+use Rattle.rules.specs.Servers.{boxOf}
+use Rattle.rules.specs.Walk.{Stop, settled, unsettled, backlog, figures, walked}
 use Rattle.rules.specs.Reading.{Admission, admitted, refused, admissionOf}
-use Rattle.rules.specs.Answers.{Reply, says, refuses, reportText, reportOn, reportAdmitted, wholeWalk, reportOf, fitted, left, callOf}
+use Rattle.rules.specs.Answers.{Reply, says, refuses, reportOn, reportAdmitted, wholeWalk, reportOf, fitted, left, callOf}
 use Rattle.rules.specs.Demands.{TrueReport}
 use Rattle.rules.proofs.ReadWellFormed.{admitted-well-formed}
 use Rattle.rules.proofs.TableBox.{length-sinks}

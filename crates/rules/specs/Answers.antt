@@ -11,7 +11,6 @@ use Rattle.rules.specs.declared.Refusal.{Refusal}
 use Rattle.rules.specs.declared.Refusal.the-variants.{Backlog, Unsettled, PastTheStop, ShortBuffer}
 use Rattle.rules.specs.Bytes.{bytes, lineFeed, equals, comma, decimal}
 use Rattle.rules.specs.Refusals.{numberOf, lineOf}
-use Rattle.rules.specs.Table.{Table}
 use Rattle.rules.specs.Servers.{Box, boxOf, whole}
 use Rattle.rules.specs.Walk.{Stop, settled, unsettled, backlog, Walked, Running, walked, rowAt}
 use Rattle.rules.specs.Reading.{Admission, admitted, refused, admissionOf}

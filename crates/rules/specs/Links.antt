@@ -1,6 +1,6 @@
 -- Rules 2, 3 and 6 of the schedule: which job is linked to which server job, and when a job finishes.
 -- `need i j` is how many ticks job j of the node at place i needs.
-use mathlib.Core.Bool.{Bool, true, false, _&&_, cond}
+use mathlib.Core.Bool.{Bool, _&&_, cond}
 use mathlib.Core.List.{List, [], _∷_}
 use Prim.Native.Nat.{ℕ, zero, suc, _+_}
 use lib.Dec.{leb, ltb, eqb}

@@ -1,6 +1,6 @@
 -- Reading a table: the lines one after another, each judged first for its spelling (2), then for its limits (3) or the predecessor rules
 -- (4). Then the hyperperiod (5) and the load (6).
-use mathlib.Core.Bool.{Bool, true, false, cond}
+use mathlib.Core.Bool.{Bool, cond}
 use mathlib.Core.List.{List, [], _∷_}
 use Prim.Native.Nat.{ℕ, zero, suc, _+_, _-_}
 use lib.Dec.{leb}

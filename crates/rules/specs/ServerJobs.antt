@@ -1,6 +1,6 @@
 -- Rules 1, 4, 5 and 6 of the schedule: which server jobs run in which tick. Nothing here knows of jobs or of what they need.
 -- A server is its place i in the list S, from 0; its server jobs are numbered from 1.
-use mathlib.Core.Bool.{Bool, true, false, _&&_, _||_, cond}
+use mathlib.Core.Bool.{Bool, _&&_, _||_, cond}
 use mathlib.Core.List.{List, [], _∷_}
 use Prim.Native.Nat.{ℕ, zero, suc, _+_, _*_, _-_, _/_}
 use lib.Dec.{leb, ltb, eqb}

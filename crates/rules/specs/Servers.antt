@@ -1,6 +1,6 @@
 -- The servers of a table in one list, and what is walked of it.
 use mathlib.Core.List.{List, [], _∷_, _++_, map}
-use Prim.Native.Nat.{ℕ, zero, suc, _+_, _-_}
+use Prim.Native.Nat.{ℕ, suc, _+_, _-_}
 use lib.ListN.{length, getD}
 use Rattle.rules.specs.Table.{Node, Graph, Table, hyperperiod, largestOffset}
 

@@ -1,6 +1,6 @@
 -- Spelling, judged byte after byte: each scanner goes over the bytes from the left, and stops at the first byte that no text of its form
 -- has after the bytes before it.
-use mathlib.Core.Bool.{Bool, true, false, cond}
+use mathlib.Core.Bool.{Bool, false, cond}
 use mathlib.Core.List.{List, [], _∷_, tail}
 use Prim.Native.Nat.{ℕ, zero, suc, _+_, _*_}
 use lib.Dec.{eqb}

@@ -1,7 +1,7 @@
 -- A table as a reader sees it, its hyperperiod and its load.
 use mathlib.Core.Bool.{Bool}
 use mathlib.Core.List.{List, [], _∷_}
-use Prim.Native.Nat.{ℕ, zero, suc, _+_, _*_, _/_, _%_}
+use Prim.Native.Nat.{ℕ, zero, suc, _*_, _/_, _%_}
 use lib.Dec.{leb}
 use Rattle.rules.specs.Lists.{sum, largest}
 

@@ -1,6 +1,6 @@
 -- Document 01's worked tables that are marked *, in one list, from the bytes of each table; and some more that see a slip which those do
 -- not. The test over the list is proved by computation in proofs/Worked.antt.
-use mathlib.Core.Bool.{Bool, true, false, _&&_, not}
+use mathlib.Core.Bool.{Bool, false, _&&_, not}
 use mathlib.Core.List.{List, [], _∷_}
 use Prim.Native.Nat.{ℕ, suc, _-_}
 use Prim.Native.String.{String}

@@ -1,5 +1,5 @@
 -- What an admission in memory says of the bytes: passed, or refused.
-use mathlib.Core.Path.{_≡_, refl, sym, ap, _∙_}
+use mathlib.Core.Path.{_≡_, refl, ap, _∙_}
 use mathlib.Core.List.{List}
 use Prim.Native.Nat.{ℕ}
 use native.Mathlib.Omega.{arith}
@@ -8,7 +8,6 @@ use Rattle.rules.specs.Reading.{Admission, admitted, refused, admissionOf}
 use Rattle.rules.specs.declared.Refusal.{Refusal}
 use Rattle.reading.specs.Admission.{codedAdmission}
 use Rattle.reading.specs.declared.admission.Admitted.{Admitted}
-use Rattle.reading.specs.declared.admission.Verdict.{Verdict}
 use Rattle.reading.specs.declared.admission.Verdict.the-variants.{Passed, Refused}
 
 pub record Passes (bytes : List ℕ) (r : Admitted) : Type 0 where

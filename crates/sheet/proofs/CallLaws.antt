@@ -1,9 +1,8 @@
 -- What a call returns and leaves: a text that does not fit, a text that was written, a refusal.
-use mathlib.Core.Path.{_≡_, refl, sym, ap, _∙_}
-use mathlib.Core.List.{List, _++_}
+use mathlib.Core.Path.{_≡_, refl}
+use mathlib.Core.List.{List}
 use Prim.Native.Nat.{ℕ, _≤_, _<_}
-use lib.Dec.{leb}
-use lib.ListN.{length, drop}
+use lib.ListN.{length}
 use borrow.Author.Tests.{le-leb, lt-leb}
 use Rattle.rules.specs.declared.Answer.the-variants.{Text, Refused}
 use Rattle.rules.specs.declared.Refusal.{Refusal}

@@ -1,8 +1,7 @@
 -- The report that the walk in memory gives is the rules' report of the bytes.
-use mathlib.Core.Path.{_≡_, refl, sym, ap, _∙_}
+use mathlib.Core.Path.{_≡_, refl, ap, _∙_}
 use mathlib.Core.List.{List}
-use mathlib.Core.Logic.{_⊎_}
-use Prim.Native.Nat.{ℕ, _-_, _^_, _≤_, _<_}
+use Prim.Native.Nat.{ℕ, _-_, _≤_}
 use native.Mathlib.Omega.{arith}
 use lib.ListN.{take}
 use lib.Dec.{T}
@@ -13,15 +12,14 @@ use Rattle.rules.specs.Servers.{boxOf, whole}
 use Rattle.rules.specs.Walk.{Stop, settled, unsettled, backlog, boundary, walked}
 use Rattle.planning.proofs.Boundaries.{last-boundary}
 use Rattle.rules.specs.Reading.{admitted, refused, admissionOf}
-use Rattle.rules.specs.Answers.{Reply, refuses, reportOn, reportAdmitted, wholeWalk, reportOf}
+use Rattle.rules.specs.Answers.{refuses, reportOn, reportOf}
 use Rattle.rules.specs.declared.Refusal.{Refusal}
 use Rattle.rules.proofs.Tests.{either-way}
 use Rattle.rules.proofs.FirstStop.{stops-in-time}
 use Rattle.rules.proofs.ReadWellFormed.{admitted-well-formed}
 use Rattle.window.specs.Entries.{lastKey}
-use Rattle.walking.specs.declared.How.{How}
 use Rattle.walking.proofs.Ends.{howOf}
-use Rattle.walking.proofs.Walked.{stop, AtStop, BeforeStop}
+use Rattle.walking.proofs.Walked.{stop, AtStop}
 use Rattle.sheet.specs.Figures.{figuresOf}
 use Rattle.sheet.specs.Walks.{Walkable, walkOfTable, stopOf}
 use Rattle.reading.specs.Admission.{codedAdmission}

@@ -1,11 +1,9 @@
 -- The row that the walk in memory gives is the rules' row of the bytes.
-use mathlib.Core.Path.{_≡_, refl, sym, ap, _∙_}
-use mathlib.Core.Bool.{cond}
+use mathlib.Core.Path.{_≡_, refl, ap, _∙_}
 use mathlib.Core.List.{List}
-use mathlib.Core.Logic.{_⊎_}
 use Prim.Native.Nat.{ℕ, _≤_, _<_, min}
 use native.Mathlib.Omega.{arith}
-use lib.Dec.{T, ltb}
+use lib.Dec.{T}
 use borrow.Author.Tests.{lt-ltb, le-ltb}
 use Rattle.rules.specs.Limits as Limits
 use Rattle.rules.specs.Table.{Table, hyperperiod}
@@ -35,7 +33,7 @@ use Rattle.rows.proofs.Shown.{row-shown}
 use Rattle.sheet.specs.Walks.{walkOfTable}
 use Rattle.sheet.specs.Rows.{rowBy, rowReply}
 use Rattle.sheet.proofs.Admissions.{Passes}
-use Rattle.sheet.proofs.TableWalks.{X, M, a, table-walked}
+use Rattle.sheet.proofs.TableWalks.{M, a, table-walked}
 use Rattle.sheet.proofs.Reports.{ok, short}
 
 stopped-row : (s : Stop) (row : Reply) → rowBy (howOf s) row ≡ refuses PastTheStop

@@ -3,32 +3,31 @@
 use mathlib.Core.Path.{_≡_, refl, sym, ap, subst, _∙_}
 use mathlib.Core.List.{List, [], _∷_, map}
 use mathlib.Core.Logic.{_⊎_}
-use Prim.Native.Nat.{ℕ, zero, suc, _+_, _*_, _-_, _≤_, _<_, min}
+use Prim.Native.Nat.{ℕ, zero, suc, _+_, _-_, _≤_, _<_}
 use native.Mathlib.Nat.{not-suc-le-zero}
 use native.Mathlib.Omega.{arith}
-use lib.Dec.{T, ltb}
+use lib.Dec.{T}
 use lib.ListN.{length, getD, take, replicate}
 use lib.Seq.{ext-getD, getD-take, length-take-le}
 use borrow.Author.Tests.{lt-ltb, le-ltb}
 use Rattle.rules.specs.Limits as Limits
 use Rattle.rules.specs.Table.{Table, Graph, hyperperiod}
-use Rattle.rules.specs.Servers.{Box, srv, sinksOf, boxOf, whole}
+use Rattle.rules.specs.Servers.{Box, sinksOf, boxOf, whole}
 use Rattle.rules.specs.Walk.{figure, figures}
-use Rattle.rules.specs.Reading.{admitted, admissionOf}
+use Rattle.rules.specs.Reading.{admitted}
 use Rattle.rules.specs.WellFormed.{wellFormed}
 use Rattle.rules.proofs.TableBox.{length-sinks, server-fits, sink-is}
 use Rattle.table.specs.Fresh as Fresh
 use Rattle.table.specs.declared.State.{State}
 use Rattle.table.specs.declared.Table.{Table as Memory}
-use Rattle.window.specs.Entries.{places, serverAt}
-use Rattle.window.specs.Loops.{replaced}
+use Rattle.window.specs.Entries.{places}
 use Rattle.window.proofs.Loops.{replaced-length, replaced-in}
-use Rattle.window.proofs.Relation.{Fits, InStep}
+use Rattle.window.proofs.Relation.{InStep}
 use Rattle.reading.specs.Memory.{withGraphs, withGraph, memoryOf}
 use Rattle.reading.specs.Admission.{codedAdmission}
 use Rattle.reading.specs.declared.admission.Admitted.{Admitted}
 use Rattle.planning.specs.Plans.{planOf}
-use Rattle.planning.specs.Offsets.{offsetsOf, largestOffsetOf}
+use Rattle.planning.specs.Offsets.{offsetsOf}
 use Rattle.planning.proofs.Located.{graphAt, firstOf, first-within}
 use Rattle.planning.proofs.Memory.{codedGraph}
 use Rattle.planning.proofs.NodeFits.{few, room, laid}
@@ -37,7 +36,7 @@ use Rattle.planning.proofs.Boundaries.{hyper-some, last-boundary}
 use Rattle.walking.specs.declared.Walk.{Walk}
 use Rattle.walking.specs.Walking.{walkOf}
 use Rattle.walking.proofs.Walked.{stop, AtStop, BeforeStop, walked-is}
-use Rattle.sheet.specs.Figures.{sinkOf, worstAt, figureOf, figuresOf}
+use Rattle.sheet.specs.Figures.{sinkOf, figureOf, figuresOf}
 use Rattle.sheet.specs.Walks.{Walkable, walkOfTable}
 
 rounds-stay : (Gs : List Graph) (t : Memory) → withGraphs t Gs .rounds ≡ t .rounds

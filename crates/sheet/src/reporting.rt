@@ -11,7 +11,7 @@ ghost use mathlib.Core.Path.{_≡_};
 ghost use Prim.Native.Nat.{_≤_};
 ghost use lib.ListN.{take};
 ghost use Rattle.rules.specs.Limits as Limits;
-ghost use Rattle.rules.specs.Answers.{Call, says, reportText, reportOn, reportOf, callOf};
+ghost use Rattle.rules.specs.Answers.{says, reportText, reportOn, reportOf, callOf};
 ghost use Rattle.rules.specs.Refusals.{answerNumber};
 ghost use Rattle.rules.specs.Demands.{TrueReport};
 ghost use Rattle.sheet.specs.Figures.{figuresOf};

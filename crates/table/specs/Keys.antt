@@ -1,5 +1,5 @@
 -- A key of the rules in the form of the code's struct: its name filled up with zeros, and the name's length.
-use mathlib.Core.List.{List, _++_}
+use mathlib.Core.List.{_++_}
 use Prim.Native.Nat.{ℕ}
 use lib.ListN.{length, take, replicate}
 use Rattle.rules.specs.Keys as Rules

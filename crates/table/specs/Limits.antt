@@ -1,5 +1,4 @@
 -- The rules' limits in the form of the code's struct: what the associated constants are proved to be.
-use Prim.Native.Nat.{ℕ}
 use Rattle.rules.specs.Limits as Rules
 use Rattle.table.specs.declared.Range.{Range}
 use Rattle.table.specs.declared.Limits.{Limits}

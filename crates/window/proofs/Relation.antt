@@ -1,7 +1,7 @@
 -- The relation between the engine's windows and the schedule of the rules: `InStep`, before the releases of an instant, and `Released`,
 -- after them. Each operation of the engine has one lemma that it keeps the relation.
 use mathlib.Core.Path.{_≡_}
-use mathlib.Core.Bool.{Bool, _&&_, cond}
+use mathlib.Core.Bool.{cond}
 use mathlib.Core.List.{List}
 use mathlib.Core.Logic.{_⊎_}
 use Prim.Native.Nat.{ℕ, suc, _+_, _*_, _-_, _≤_, _<_}
@@ -18,10 +18,9 @@ use Rattle.rules.proofs.LinkRows.{linkedUpTo}
 use Rattle.rules.proofs.TableBox.{beside}
 use Rattle.numbers.specs.Masks.{bit}
 use Rattle.table.specs.declared.Pending.{Pending}
-use Rattle.table.specs.declared.Server.{Server as Window}
 use Rattle.table.specs.declared.State.{State}
 use Rattle.window.specs.declared.Plan.{Plan}
-use Rattle.window.specs.Entries.{places, window, lastKey, slotOf, serverAt, countAt, firstAt, untilAt, leftAt, workAt, levelAt, periodAt, stepAt}
+use Rattle.window.specs.Entries.{places, window, slotOf, serverAt, countAt, firstAt, untilAt, leftAt, workAt, levelAt, periodAt, stepAt}
 
 -- an instant far below those at which a key would no longer fit
 abbrev pub lastInstant : ℕ

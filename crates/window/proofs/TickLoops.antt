@@ -13,7 +13,7 @@ use borrow.Author.Tests.{lt-ltb, le-ltb}
 use Rattle.rules.specs.Lists.{one?}
 use Rattle.rules.proofs.Tests.{by-lt}
 use Rattle.window.specs.Entries.{window}
-use Rattle.window.specs.Loops.{someBelow, replaced, inTurn}
+use Rattle.window.specs.Loops.{someBelow, inTurn}
 use Rattle.window.specs.Choosing.{readyOf, keyOfSlot}
 use Rattle.window.specs.Spending.{spentSlots, spent}
 use Rattle.window.specs.Finishing.{movedDown}

@@ -2,11 +2,11 @@
 -- say the phase.
 use mathlib.Core.Path.{_≡_}
 use mathlib.Core.Bool.{cond}
-use Prim.Native.Nat.{ℕ, zero, suc, _+_, _*_, _-_, _/_, _%_, _≤_, _<_}
-use native.Mathlib.Nat.{suc-mul, zero-mul, le-div-iff-mul-le, mul-mod-left, add-mul-mod-self-right, mod-eq-of-lt}
+use Prim.Native.Nat.{ℕ, zero, suc, _+_, _*_, _-_, _%_, _≤_, _<_}
+use native.Mathlib.Nat.{suc-mul, zero-mul, mul-mod-left, add-mul-mod-self-right, mod-eq-of-lt}
 use native.Mathlib.Omega.{arith}
 use lib.Dec.{eqb}
-use borrow.Author.Tests.{lt-ltb, le-ltb, eq-eqb, ne-eqb}
+use borrow.Author.Tests.{eq-eqb, ne-eqb}
 use Rattle.rules.specs.Lists.{one?}
 use Rattle.rules.specs.Servers.{Server}
 use Rattle.rules.specs.ServerJobs.{releaseOf, released, releasedBefore}

@@ -7,7 +7,7 @@ use lib.ListN.{getD}
 use Rattle.table.specs.declared.Pending.{Pending}
 use Rattle.table.specs.declared.Server.{Server}
 use Rattle.table.specs.declared.State.{State}
-use Rattle.window.specs.Entries.{window, slotOf, serverAt, countAt, untilAt, leftAt}
+use Rattle.window.specs.Entries.{window, slotOf, serverAt, countAt, untilAt}
 use Rattle.window.specs.Loops.{allBelow}
 
 abbrev pub sameBool : Bool → Bool → Bool

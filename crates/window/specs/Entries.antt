@@ -1,7 +1,7 @@
 -- The entries of a state and of a plan by place. These definitions, and all of this crate's, are for the proof and not for belief: what a
 -- reader believes is the rules.
-use mathlib.Core.Bool.{Bool, false}
-use mathlib.Core.List.{List, []}
+use mathlib.Core.Bool.{false}
+use mathlib.Core.List.{[]}
 use Prim.Native.Nat.{ℕ, _+_, _*_, _-_, _^_, min}
 use lib.ListN.{getD}
 use Rattle.rules.specs.Limits as Limits

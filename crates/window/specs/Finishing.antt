@@ -4,11 +4,10 @@ use mathlib.Core.List.{List}
 use Prim.Native.Nat.{ℕ, zero, suc, _+_, _*_, _-_, _/_, min, max}
 use lib.Dec.{ltb, eqb}
 use lib.ListN.{getD, set}
-use Rattle.table.specs.declared.Pending.{Pending}
 use Rattle.table.specs.declared.Server.{Server}
 use Rattle.table.specs.declared.State.{State}
 use Rattle.window.specs.declared.Plan.{Plan}
-use Rattle.window.specs.Entries.{places, window, lastKey, noJob, slotOf, serverAt, countAt, firstAt, stepAt, nodesOf}
+use Rattle.window.specs.Entries.{places, window, lastKey, slotOf, serverAt, countAt, firstAt, stepAt, nodesOf}
 use Rattle.window.specs.Loops.{someBelow, replaced, inTurn}
 use Rattle.window.specs.Choosing.{nextKey}
 

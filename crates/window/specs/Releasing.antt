@@ -10,7 +10,7 @@ use Rattle.table.specs.declared.Pending.{Pending}
 use Rattle.table.specs.declared.Server.{Server}
 use Rattle.table.specs.declared.State.{State}
 use Rattle.window.specs.declared.Plan.{Plan}
-use Rattle.window.specs.Entries.{places, window, lastKey, serverAt, countAt, firstAt, untilAt, workAt, stepAt, nodesOf}
+use Rattle.window.specs.Entries.{places, window, lastKey, serverAt, countAt, firstAt, workAt, stepAt, nodesOf}
 use Rattle.window.specs.Loops.{someBelow, allBelow, replaced, inTurn}
 
 -- the server at i releases a server job

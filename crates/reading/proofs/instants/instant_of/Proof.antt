@@ -3,9 +3,6 @@ use Rattle.reading.proofs.Spelled.{nothing-after, something-after, no-n
 use borrow.Author.Needs.{needs}
 use Rattle.reading.proofs.instants.instant_of.Statement.{statement}
 use Rattle.reading.proofs.instants.instant_of.Tie as tie
-use Rattle.reading.proofs.instants.instant_of.Reads as reads
-use Rattle.reading.proofs.instants.instant_of.Lts as lts
-use Rattle.reading.proofs.scanning.number_at.Reads as number-at-reads
 
 number-at-requires : tie.Need-number-at-requires
 number-at-requires c κs = search needs

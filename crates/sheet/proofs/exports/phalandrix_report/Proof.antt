@@ -3,10 +3,6 @@ use Rattle.sheet.proofs.ExportLaws.{told-call, answered}
 use borrow.Author.Needs.{needs}
 use Rattle.sheet.proofs.exports.phalandrix_report.Statement.{statement}
 use Rattle.sheet.proofs.exports.phalandrix_report.Tie as tie
-use Rattle.sheet.proofs.exports.phalandrix_report.Reads as reads
-use Rattle.sheet.proofs.exports.phalandrix_report.Lts as lts
-use Rattle.sheet.proofs.exports.told.Reads as told-reads
-use Rattle.sheet.proofs.reporting.report.Reads as report-reads
 
 report-requires : tie.Need-report-requires
 report-requires c κs = search needs

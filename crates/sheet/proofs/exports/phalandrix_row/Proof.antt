@@ -3,10 +3,6 @@ use Rattle.sheet.proofs.ExportLaws.{told-call}
 use borrow.Author.Needs.{needs}
 use Rattle.sheet.proofs.exports.phalandrix_row.Statement.{statement}
 use Rattle.sheet.proofs.exports.phalandrix_row.Tie as tie
-use Rattle.sheet.proofs.exports.phalandrix_row.Reads as reads
-use Rattle.sheet.proofs.exports.phalandrix_row.Lts as lts
-use Rattle.sheet.proofs.exports.told.Reads as told-reads
-use Rattle.sheet.proofs.rowing.row.Reads as row-reads
 
 row-requires : tie.Need-row-requires
 row-requires c κs = search needs

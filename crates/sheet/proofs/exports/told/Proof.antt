@@ -2,10 +2,6 @@
 use borrow.Author.Needs.{needs}
 use Rattle.sheet.proofs.exports.told.Statement.{statement}
 use Rattle.sheet.proofs.exports.told.Tie as tie
-use Rattle.sheet.proofs.exports.told.Reads as reads
-use Rattle.sheet.proofs.exports.told.Lts as lts
-use Rattle.writing.proofs.line_of.Reads as line-of-reads
-use Rattle.writing.proofs.number_of.Reads as number-of-reads
 
 enum-known-a : tie.Need-enum-known-a
 enum-known-a c = search needs

@@ -1,20 +1,15 @@
 -- `figures_of` meets its contract. The loop keeps: the first g figures are taken over.
-use mathlib.Core.Path.{_≡_, refl, sym, ap, _∙_}
-use Prim.Native.Nat.{ℕ, _-_, _≤_}
+use mathlib.Core.Path.{_≡_, refl, ap, _∙_}
+use Prim.Native.Nat.{_-_, _≤_}
 use native.Mathlib.Nat.{le-antisymm}
-use lib.ListN.{getD, replicate}
+use lib.ListN.{replicate}
 use borrow.Author.Needs.{needs}
 use Rattle.rules.specs.Limits as Limits
-use Rattle.table.specs.Fresh.{noGraph}
 use Rattle.window.specs.Loops.{replaced}
 use Rattle.engine.proofs.LoopLaws.{replaced-more}
-use Rattle.sheet.specs.Figures.{sinkOf, worstAt, figureOf}
+use Rattle.sheet.specs.Figures.{worstAt, figureOf}
 use Rattle.sheet.proofs.figures.figures_of.Statement.{statement}
 use Rattle.sheet.proofs.figures.figures_of.Tie as tie
-use Rattle.sheet.proofs.figures.figures_of.Reads as reads
-use Rattle.sheet.proofs.figures.figures_of.Lts as lts
-use Rattle.sheet.proofs.figures.sink_of.Reads as sink-of-reads
-use Rattle.sheet.proofs.figures.worst_at.Reads as worst-at-reads
 
 abbrev Inv-loop : tie.InvT-loop
 Inv-loop st table f₀ g₀ f g = (g ≤ Limits.graphs .to) × (f ≡ replaced (figureOf table st) (replicate (Limits.graphs .to) 0) g)

@@ -1,9 +1,7 @@
 -- `sink_of` meets its contract, by its two tests.
-use Prim.Native.Nat.{_<_}
 use native.Mathlib.Omega.{arith}
 use borrow.Author.Needs.{needs}
 use borrow.Author.Tests.{lt-ltb, le-ltb}
-use Rattle.window.specs.Entries.{places}
 use Rattle.sheet.proofs.figures.sink_of.Statement.{statement}
 use Rattle.sheet.proofs.figures.sink_of.Tie as tie
 

@@ -1,13 +1,8 @@
 -- `put_settled` meets its contract: the text does not fit, and nothing is written; or it is written.
-use mathlib.Core.Path.{refl, _∙_}
 use Rattle.sheet.proofs.CallLaws.{short-call, written-call}
 use borrow.Author.Needs.{needs}
 use Rattle.sheet.proofs.reporting.put_settled.Statement.{statement}
 use Rattle.sheet.proofs.reporting.put_settled.Tie as tie
-use Rattle.sheet.proofs.reporting.put_settled.Reads as reads
-use Rattle.sheet.proofs.reporting.put_settled.Lts as lts
-use Rattle.writing.proofs.put_report.Reads as put-report-reads
-use Rattle.writing.proofs.report_length.Reads as report-length-reads
 
 report-length-requires : tie.Need-report-length-requires
 report-length-requires c κs = search needs

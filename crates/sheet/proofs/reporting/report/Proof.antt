@@ -1,5 +1,5 @@
 -- `report` meets its contract: what was read passed or was refused, and so are the bytes.
-use mathlib.Core.Path.{_≡_, refl, sym, ap, _∙_}
+use mathlib.Core.Path.{sym, ap, _∙_}
 use Rattle.rules.specs.Answers.{Call, callOf}
 use Rattle.rules.specs.Refusals.{answerNumber}
 use Rattle.rules.proofs.TrueReports.{an-answered-report-is-true}
@@ -9,11 +9,6 @@ use Rattle.sheet.proofs.Reports.{passed-walkable, passed-few, passed-re
 use borrow.Author.Needs.{needs}
 use Rattle.sheet.proofs.reporting.report.Statement.{statement}
 use Rattle.sheet.proofs.reporting.report.Tie as tie
-use Rattle.sheet.proofs.reporting.report.Reads as reads
-use Rattle.sheet.proofs.reporting.report.Lts as lts
-use Rattle.reading.proofs.admit.Reads as admit-reads
-use Rattle.sheet.proofs.reporting.report_walk.Reads as report-walk-reads
-use Rattle.sheet.proofs.walks.walked.Reads as walked-reads
 
 admit-requires : tie.Need-admit-requires
 admit-requires c κs = search needs

@@ -1,13 +1,9 @@
 -- `report_walk` meets its contract, by how the walk ended.
-use mathlib.Core.Path.{refl, _∙_}
+use mathlib.Core.Path.{_∙_}
 use Rattle.sheet.proofs.CallLaws.{refused-call}
 use borrow.Author.Needs.{needs}
 use Rattle.sheet.proofs.reporting.report_walk.Statement.{statement}
 use Rattle.sheet.proofs.reporting.report_walk.Tie as tie
-use Rattle.sheet.proofs.reporting.report_walk.Reads as reads
-use Rattle.sheet.proofs.reporting.report_walk.Lts as lts
-use Rattle.sheet.proofs.figures.figures_of.Reads as figures-of-reads
-use Rattle.sheet.proofs.reporting.put_settled.Reads as put-settled-reads
 
 enum-known-how : tie.Need-enum-known-how
 enum-known-how c = search needs

@@ -1,13 +1,8 @@
 -- `put_running` meets its contract: the text does not fit, and nothing is written; or it is written.
-use mathlib.Core.Path.{refl, _∙_}
 use Rattle.sheet.proofs.CallLaws.{short-call, written-call}
 use borrow.Author.Needs.{needs}
 use Rattle.sheet.proofs.rowing.put_running.Statement.{statement}
 use Rattle.sheet.proofs.rowing.put_running.Tie as tie
-use Rattle.sheet.proofs.rowing.put_running.Reads as reads
-use Rattle.sheet.proofs.rowing.put_running.Lts as lts
-use Rattle.writing.proofs.put_row.Reads as put-row-reads
-use Rattle.writing.proofs.row_length.Reads as row-length-reads
 
 row-length-requires : tie.Need-row-length-requires
 row-length-requires c κs = search needs

@@ -1,5 +1,5 @@
 -- `row` meets its contract: what was read passed or was refused, and so are the bytes.
-use mathlib.Core.Path.{refl, sym, ap, _∙_}
+use mathlib.Core.Path.{sym, ap, _∙_}
 use Rattle.rules.specs.Answers.{callOf}
 use Rattle.sheet.specs.Walks.{walkOfTable}
 use Rattle.sheet.proofs.CallLaws.{refused-call}
@@ -9,12 +9,6 @@ use Rattle.sheet.proofs.RowCalls.{passed-row, refused-row}
 use borrow.Author.Needs.{needs}
 use Rattle.sheet.proofs.rowing.row.Statement.{statement}
 use Rattle.sheet.proofs.rowing.row.Tie as tie
-use Rattle.sheet.proofs.rowing.row.Reads as reads
-use Rattle.sheet.proofs.rowing.row.Lts as lts
-use Rattle.reading.proofs.admit.Reads as admit-reads
-use Rattle.sheet.proofs.rowing.near.Reads as near-reads
-use Rattle.sheet.proofs.rowing.row_walk.Reads as row-walk-reads
-use Rattle.sheet.proofs.walks.walked.Reads as walked-reads
 
 admit-requires : tie.Need-admit-requires
 admit-requires c κs = search needs

@@ -1,16 +1,10 @@
 -- `row_walk` meets its contract, by how the walk ended.
-use mathlib.Core.Path.{refl, _∙_}
+use mathlib.Core.Path.{_∙_}
 use Rattle.rows.proofs.Entries.{row-few}
 use Rattle.sheet.proofs.CallLaws.{refused-call}
 use borrow.Author.Needs.{needs}
 use Rattle.sheet.proofs.rowing.row_walk.Statement.{statement}
 use Rattle.sheet.proofs.rowing.row_walk.Tie as tie
-use Rattle.sheet.proofs.rowing.row_walk.Reads as reads
-use Rattle.sheet.proofs.rowing.row_walk.Lts as lts
-use Rattle.planning.proofs.offsets_of.Reads as offsets-of-reads
-use Rattle.planning.proofs.plan_of.Reads as plan-of-reads
-use Rattle.rows.proofs.row_of.Reads as row-of-reads
-use Rattle.sheet.proofs.rowing.put_running.Reads as put-running-reads
 
 enum-told : tie.Need-enum-told
 enum-told c = search needs

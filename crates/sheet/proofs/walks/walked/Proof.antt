@@ -1,15 +1,9 @@
 -- `walked` meets its contract: the plan, the offsets and the largest offset are those of the table.
-use mathlib.Core.Path.{refl, _∙_}
+use mathlib.Core.Path.{_∙_}
 use Rattle.sheet.specs.Walks.{walkOfTable}
 use borrow.Author.Needs.{needs}
 use Rattle.sheet.proofs.walks.walked.Statement.{statement}
 use Rattle.sheet.proofs.walks.walked.Tie as tie
-use Rattle.sheet.proofs.walks.walked.Reads as reads
-use Rattle.sheet.proofs.walks.walked.Lts as lts
-use Rattle.planning.proofs.largest_offset.Reads as largest-offset-reads
-use Rattle.planning.proofs.offsets_of.Reads as offsets-of-reads
-use Rattle.planning.proofs.plan_of.Reads as plan-of-reads
-use Rattle.walking.proofs.walk_to.Reads as walk-to-reads
 
 plan-of-requires : tie.Need-plan-of-requires
 plan-of-requires c κs = search needs

@@ -1,7 +1,4 @@
 -- `Table::fresh` meets its contract: its servers are copies of what `empty_server` ensures.
-use mathlib.Core.Path.{refl, ap}
-use Rattle.table.specs.Fresh.{freshState}
-use lib.ListN.{replicate}
 use borrow.Author.Needs.{needs}
 use Rattle.table.proofs.Table.fresh.Statement.{statement}
 use Rattle.table.proofs.Table.fresh.Tie as tie

@@ -1,7 +1,6 @@
 -- `Table::key` meets its contract: the constant table is the rules' keys, each in the form of the code's struct.
-use mathlib.Core.Path.{refl}
 use mathlib.Core.List.{[]}
-use Prim.Native.Nat.{ℕ, _≤_}
+use Prim.Native.Nat.{_≤_}
 use native.Mathlib.Omega.{arith}
 use lib.ListN.{length, List·getD-eq-default}
 use borrow.Author.Needs.{needs}
