@@ -21,7 +21,8 @@ use Rattle.planning.specs.Plans as Plans
 use Rattle.planning.specs.Plans.{workOf, withNodes, graphsOf, planTo, planOf}
 use Rattle.planning.specs.Offsets.{offsetsTo, offsetsOf}
 use Rattle.planning.proofs.PlaceLaws.{replaced-length, replaced-other, replaced-at}
-use Rattle.planning.proofs.Located.{graphAt, nodeAt, nodesIn, firstOf, first-within, first-rises}
+use Rattle.rules.proofs.ReadWellFormed.{nodesIn}
+use Rattle.planning.proofs.Located.{graphAt, nodeAt, firstOf, first-within, first-rises}
 use Rattle.planning.proofs.Memory.{LaidOut}
 
 module _ (Gs : List Rules.Graph) (room : nodesIn Gs ≤ places) where

@@ -24,7 +24,7 @@ use Rattle.planning.specs.Plans.{planOf}
 use Rattle.planning.specs.Offsets.{offsetsOf, largestTo, largestOffsetOf}
 use Rattle.planning.proofs.Located.{noGraph, graphAt, located}
 use Rattle.planning.proofs.Servers.{sinks-below}
-use Rattle.planning.proofs.Memory.{processors-stay}
+use Rattle.reading.proofs.MemoryLaws.{processors-stay}
 use Rattle.planning.proofs.Entries.{all-graphs, plan-processors, plan-nodes, offset-at, offsets-length}
 use Rattle.planning.proofs.NodeFits.{few, room, laid, graph-ok, some, servers, server, node-planned}
 

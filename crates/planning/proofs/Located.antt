@@ -8,12 +8,13 @@ use native.Mathlib.Nat.{not-suc-le-zero}
 use native.Mathlib.Omega.{arith}
 use lib.ListN.{length, getD}
 use Rattle.rules.specs.Limits as Limits
-use Rattle.rules.specs.Lists.{any?, all?, sum, numbers}
+use Rattle.rules.specs.Lists.{any?, all?, numbers}
 use Rattle.rules.specs.Table.{Node, Graph}
 use Rattle.rules.specs.WellFormed.{within, orderly, nodesFormed}
 use Rattle.rules.proofs.Formed.{first-of, second-of, node-formed}
 use Rattle.rules.proofs.Tests.{by-lt}
 use Rattle.numbers.proofs.Cases.{by-test}
+use Rattle.rules.proofs.ReadWellFormed.{nodesIn}
 
 -- what stands outside of the lists
 abbrev pub noNode : Node
@@ -29,9 +30,6 @@ abbrev pub nodeAt : Graph → ℕ → Node
 nodeAt G q = getD (G .nodes) q noNode
 
 -- how many nodes graphs have, and those before graph g
-abbrev pub nodesIn : List Graph → ℕ
-nodesIn Gs = sum (λ (G : Graph). length (G .nodes)) Gs
-
 unfoldable pub firstOf : List Graph → ℕ → ℕ
 firstOf Gs zero = 0
 firstOf [] (suc g) = 0

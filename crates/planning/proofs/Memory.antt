@@ -1,25 +1,23 @@
 -- The table in memory by place: entry g is that of graph g, whose node 1 has the place `firstOf`, and node q of it stands q places on.
-use mathlib.Core.Path.{_≡_, refl, _∙_}
+use mathlib.Core.Path.{_≡_, _∙_}
 use mathlib.Core.List.{List, [], _∷_, map}
 use Prim.Native.Nat.{ℕ, zero, suc, _+_, _≤_, _<_}
 use native.Mathlib.Nat.{not-suc-le-zero}
 use native.Mathlib.Omega.{arith}
 use lib.ListN.{length, getD, set, length-set, length-map}
-use lib.Seq.{sets, length-sets, getD-set-same, getD-set-other}
+use lib.Seq.{sets, length-sets, getD-set-same}
 use Rattle.rules.specs.Limits as Limits
 use Rattle.rules.specs.Table as Rules
 use Rattle.table.specs.declared.Table.{Table}
 use Rattle.table.specs.declared.Graph.{Graph}
 use Rattle.table.specs.Fresh as Fresh
-use Rattle.table.proofs.Lists.{getD-map}
+use Rattle.rules.proofs.Cells.{getD-map}
+use Rattle.reading.proofs.MemoryLaws.{sets-before, graphs-counted, graph-stays, node-stays}
 use Rattle.reading.specs.Memory.{codedNode, withGraph, withGraphs, memoryOf}
-use Rattle.planning.proofs.Located.{noNode, graphAt, nodeAt, nodesIn, firstOf}
+use Rattle.rules.proofs.ReadWellFormed.{nodesIn}
+use Rattle.planning.proofs.Located.{noNode, graphAt, nodeAt, firstOf}
 
 module _ {A : Type 0} where
-  sets-before : (vs l : List A) (i k : ℕ) (d : A) → k < i → getD (sets l i vs) k d ≡ getD l k d
-  sets-before [] l i k d h = refl
-  sets-before (v ∷ vs) l i k d h = sets-before vs (set l i v) (suc i) k d (omega arith) ∙ getD-set-other l i k v d (λ e. omega arith)
-
   sets-at : (vs l : List A) (i q : ℕ) (d : A) → q < length vs → i + length vs ≤ length l → getD (sets l i vs) (i + q) d ≡ getD vs q d
   sets-at [] l i q d h r = absurd (not-suc-le-zero h)
   sets-at (v ∷ vs) l i zero d h r =
@@ -32,34 +30,10 @@ module _ {A : Type 0} where
 abbrev pub codedGraph : ℕ → Rules.Graph → Graph
 codedGraph first G = record { period = G .period; offset = G .offset; first = first; nodes = length (G .nodes) }
 
-pub processors-stay : (Gs : List Rules.Graph) (t : Table) → withGraphs t Gs .processors ≡ t .processors
-unfolding withGraphs
-processors-stay [] t = refl
-processors-stay (G ∷ Gs) t = processors-stay Gs (withGraph t G)
-
-graphs-counted : (Gs : List Rules.Graph) (t : Table) → withGraphs t Gs .graphs ≡ t .graphs + length Gs
-unfolding withGraphs
-graphs-counted [] t = omega arith
-graphs-counted (G ∷ Gs) t = graphs-counted Gs (withGraph t G) ∙ omega arith
-
 nodes-counted : (Gs : List Rules.Graph) (t : Table) → withGraphs t Gs .nodes ≡ t .nodes + nodesIn Gs
 unfolding withGraphs
 nodes-counted [] t = omega arith
 nodes-counted (G ∷ Gs) t = nodes-counted Gs (withGraph t G) ∙ omega arith
-
--- what stands there stays as more graphs are added
-graph-stays : (Gs : List Rules.Graph) (t : Table) (g : ℕ) → g < t .graphs → getD (withGraphs t Gs .graph) g Fresh.noGraph ≡ getD (t .graph) g Fresh.noGraph
-unfolding withGraphs
-graph-stays [] t g h = refl
-graph-stays (G ∷ Gs) t g h =
-    graph-stays Gs (withGraph t G) g (omega arith)
-    ∙ getD-set-other (t .graph) (t .graphs) g (codedGraph (t .nodes) G) Fresh.noGraph (λ e. omega arith)
-
-node-stays : (Gs : List Rules.Graph) (t : Table) (i : ℕ) → i < t .nodes → getD (withGraphs t Gs .node) i Fresh.noNode ≡ getD (t .node) i Fresh.noNode
-unfolding withGraphs
-node-stays [] t i h = refl
-node-stays (G ∷ Gs) t i h =
-    node-stays Gs (withGraph t G) i (omega arith) ∙ sets-before (map codedNode (G .nodes)) (t .node) (t .nodes) i Fresh.noNode h
 
 graph-put : (Gs : List Rules.Graph) (t : Table) (g : ℕ) → g < length Gs → t .graphs + length Gs ≤ length (t .graph)
     → getD (withGraphs t Gs .graph) (t .graphs + g) Fresh.noGraph ≡ codedGraph (t .nodes + firstOf Gs g) (graphAt Gs g)

@@ -31,8 +31,10 @@ use Rattle.planning.specs.Narrowing.{most16}
 use Rattle.planning.specs.Places.{atPlaces}
 use Rattle.planning.specs.Plans.{planOf}
 use Rattle.planning.proofs.PlaceLaws.{at-places-bit}
-use Rattle.planning.proofs.Located.{noNode, noGraph, graphAt, nodeAt, nodesIn, firstOf, first-within, all-at, all-numbers, some-at, NodeFormed, node-at}
-use Rattle.planning.proofs.Servers.{serverOf, servers-length, server-at, sink-at, predecessor-at}
+use Rattle.rules.proofs.ReadWellFormed.{nodesIn}
+use Rattle.planning.proofs.Located.{noNode, noGraph, graphAt, nodeAt, firstOf, first-within, all-at, all-numbers, some-at, NodeFormed, node-at}
+use Rattle.rules.specs.Servers.{serverOf}
+use Rattle.planning.proofs.Servers.{servers-length, server-at, sink-at, predecessor-at}
 use Rattle.planning.proofs.Memory.{LaidOut, laid-out}
 use Rattle.planning.proofs.Entries.{work-at, level-at, period-at, step-at}
 

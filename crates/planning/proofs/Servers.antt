@@ -12,24 +12,11 @@ use lib.Seq.{getD-append-add}
 use borrow.Author.Tests.{eq-eqb, ne-eqb, eqb-true, eqb-false, leb-true, leb-false, lt-ltb}
 use Rattle.rules.specs.Lists.{any?, all?}
 use Rattle.rules.specs.Table.{Node, Graph}
-use Rattle.rules.specs.Servers.{Server, noServer, ofNodes, ofGraphs, sinksOf, srv}
+use Rattle.rules.specs.Servers.{noServer, serverOf, ofNodes, ofGraphs, sinksOf, srv}
 use Rattle.numbers.proofs.Cases.{by-test}
 use Rattle.reading.proofs.Successors.{Fits}
-use Rattle.planning.proofs.Located.{noNode, graphAt, nodeAt, nodesIn, firstOf}
-
--- the server of node number v of graph number g, whose node 1 has the place `first`
-abbrev pub serverOf : ℕ → ℕ → ℕ → Graph → Node → Server
-serverOf first g v G x =
-    record {
-      graph = g;
-      node = v;
-      period = G .period;
-      offset = G .offset;
-      point = G .period;
-      budget = x .budget;
-      level = x .level;
-      predecessors = map (λ (p : ℕ). first + (p - 1)) (x .after);
-    }
+use Rattle.rules.proofs.ReadWellFormed.{nodesIn}
+use Rattle.planning.proofs.Located.{noNode, graphAt, nodeAt, firstOf}
 
 of-node : (base g v : ℕ) (G : Graph) (xs : List Node) (q : ℕ) → q < length xs
     → srv (ofNodes base g v G xs) q ≡ serverOf base g (v + q) G (getD xs q noNode)

@@ -12,7 +12,8 @@ use Rattle.rules.specs.Lists.{all?}
 use Rattle.rules.specs.Table.{Graph, Table, lcm, lcmFrom, hyperperiod, load, loadable}
 use Rattle.rules.specs.WellFormed.{graphFormed, wellFormed}
 use Rattle.rules.specs.Reading.{admit}
-use Rattle.rules.proofs.Formed.{by-test, first-of, second-of, within-limits, graph-formed, table-formed}
+use Rattle.rules.proofs.Formed.{first-of, second-of, within-limits, graph-formed, table-formed}
+use Rattle.rules.proofs.Tests.{by-test}
 use Rattle.numbers.specs.Multiples.{multipleWithin}
 use Rattle.numbers.proofs.Euclid.{lcm-grows}
 use Rattle.table.specs.declared.Table.{Table as Memory}

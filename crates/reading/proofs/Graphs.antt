@@ -15,7 +15,7 @@ use Rattle.rules.specs.Table.{Node, Graph}
 use Rattle.rules.specs.WellFormed.{within, allFollowed, nodesFormed}
 use Rattle.rules.specs.Reading.{Place, Outcome, refused, done, _and-then_, numberLine, nodesFrom, graphNodes, graph, graphsFrom, ended, table}
 use Rattle.rules.proofs.Outcomes.{Holds, number-line-holds}
-use Rattle.rules.proofs.Formed.{by-test}
+use Rattle.rules.proofs.Tests.{by-test}
 use Rattle.numbers.specs.Masks.{unsetBelow}
 use Rattle.table.specs.declared.Table.{Table as Memory}
 use Rattle.table.specs.Fresh.{emptyTable}

@@ -12,7 +12,8 @@ use Rattle.rules.specs.Keys.{keyAt}
 use Rattle.rules.specs.Limits.{Range}
 use Rattle.rules.specs.Spelling.{Scan, read, wrong, _⟫_, text, heading}
 use Rattle.rules.specs.WellFormed.{within, orderly}
-use Rattle.rules.proofs.Formed.{by-test, within-limits}
+use Rattle.rules.proofs.Formed.{within-limits}
+use Rattle.rules.proofs.Tests.{by-test}
 use Rattle.reading.specs.Positions.{far, kept}
 use Rattle.reading.specs.Masks.{maskOf, listing}
 use Rattle.reading.specs.Lines.{misspelled, judgeBy, closed, same, always, lineJudged}

@@ -10,7 +10,8 @@ use borrow.Author.Tests.{eq-eqb, ne-eqb, ltb-true, eqb-true, eqb-false, lt-ltb}
 use Rattle.rules.specs.Limits as Limits
 use Rattle.rules.specs.Lists.{any?, keep, numbers}
 use Rattle.rules.specs.WellFormed.{rising, orderly}
-use Rattle.rules.proofs.Formed.{by-test, first-of, second-of}
+use Rattle.rules.proofs.Formed.{first-of, second-of}
+use Rattle.rules.proofs.Tests.{by-test}
 use Rattle.numbers.specs.Masks.{bit}
 use Rattle.reading.specs.Masks.{maskOf, listOf}
 use Rattle.reading.proofs.Successors.{orderly-fits, mask-bit}

@@ -8,9 +8,10 @@ use native.Mathlib.Omega.{arith}
 use lib.ListN.{length, getD, set, length-set}
 use lib.Seq.{sets, length-sets, getD-set-same, getD-set-other}
 use Rattle.rules.specs.Limits as Limits
-use Rattle.rules.specs.Lists.{all?, sum, tab}
+use Rattle.rules.specs.Lists.{all?, tab}
 use Rattle.rules.specs.Table as Rules
 use Rattle.rules.specs.WellFormed.{nodesFormed, graphFormed, wellFormed}
+use Rattle.rules.proofs.ReadWellFormed.{nodesIn}
 use Rattle.rules.proofs.Formed.{first-of, second-of, within-limits, node-formed, graph-formed, table-formed}
 use Rattle.table.specs.declared.Table.{Table}
 use Rattle.table.specs.declared.Graph.{Graph}
@@ -25,9 +26,9 @@ tab-alike {B} f g a (suc n) h =
     ap (λ (x : B). x ∷ tab f (suc a) n) (h a (omega arith)) ∙ ap (λ (l : List B). g a ∷ l) (tab-alike f g (suc a) n (λ i l. h i (omega arith)))
 
 -- entries before those that are filled stay
-before-sets : (vs l : List Node) (i k : ℕ) → k < i → getD (sets l i vs) k noNode ≡ getD l k noNode
-before-sets [] l i k h = refl
-before-sets (v ∷ vs) l i k h = before-sets vs (set l i v) (suc i) k (omega arith) ∙ getD-set-other l i k v noNode (λ e. omega arith)
+pub sets-before : {A : Type 0} (vs l : List A) (i k : ℕ) (d : A) → k < i → getD (sets l i vs) k d ≡ getD l k d
+sets-before [] l i k d h = refl
+sets-before (v ∷ vs) l i k d h = sets-before vs (set l i v) (suc i) k d (omega arith) ∙ getD-set-other l i k v d (λ e. omega arith)
 
 -- a node, and the nodes of a graph
 node-back : (v : ℕ) (x : Rules.Node) (xs : List Rules.Node) → v ≤ Limits.nodes .to → nodesFormed v (x ∷ xs) ≡ true → nodeOf (codedNode x) ≡ x
@@ -40,24 +41,21 @@ nodes-back v [] rows f h l e = refl
 nodes-back v (x ∷ xs) rows f h l e =
     let next = set rows f (codedNode x) in
     let same : length next ≡ length rows = length-set rows f (codedNode x) in
-    let here : getD (filled rows f (x ∷ xs)) f noNode ≡ codedNode x = before-sets (map codedNode xs) next (suc f) f (omega arith)
+    let here : getD (filled rows f (x ∷ xs)) f noNode ≡ codedNode x = sets-before (map codedNode xs) next (suc f) f noNode (omega arith)
     ∙ getD-set-same rows f (codedNode x) noNode (omega arith) in
     ap (λ (y : Rules.Node). y ∷ tab (λ (i : ℕ). nodeOf (getD (filled rows f (x ∷ xs)) i noNode)) (suc f) (length xs)) (ap nodeOf here ∙ node-back v x xs (omega arith) e)
     ∙ ap (λ (ys : List Rules.Node). x ∷ ys) (nodes-back (suc v) xs next (suc f) (omega arith) (omega arith) (node-formed v x xs e .others))
 
 -- graphs and nodes in memory stay as more graphs are added
-graph-stays : (Gs : List Rules.Graph) (t : Table) (g : ℕ) → g < t .graphs → getD (withGraphs t Gs .graph) g noGraph ≡ getD (t .graph) g noGraph
+pub graph-stays : (Gs : List Rules.Graph) (t : Table) (g : ℕ) → g < t .graphs → getD (withGraphs t Gs .graph) g noGraph ≡ getD (t .graph) g noGraph
 unfolding withGraphs
 graph-stays [] t g h = refl
 graph-stays (G ∷ Gs) t g h = graph-stays Gs (withGraph t G) g (omega arith) ∙ getD-set-other (t .graph) (t .graphs) g _ noGraph (λ e. omega arith)
 
-node-stays : (Gs : List Rules.Graph) (t : Table) (i : ℕ) → i < t .nodes → getD (withGraphs t Gs .node) i noNode ≡ getD (t .node) i noNode
+pub node-stays : (Gs : List Rules.Graph) (t : Table) (i : ℕ) → i < t .nodes → getD (withGraphs t Gs .node) i noNode ≡ getD (t .node) i noNode
 unfolding withGraphs
 node-stays [] t i h = refl
-node-stays (G ∷ Gs) t i h = node-stays Gs (withGraph t G) i (omega arith) ∙ before-sets (map codedNode (G .nodes)) (t .node) (t .nodes) i h
-
-abbrev nodesIn : List Rules.Graph → ℕ
-nodesIn Gs = sum (λ (G : Rules.Graph). length (G .nodes)) Gs
+node-stays (G ∷ Gs) t i h = node-stays Gs (withGraph t G) i (omega arith) ∙ sets-before (map codedNode (G .nodes)) (t .node) (t .nodes) i noNode h
 
 -- the entry of a graph that is added first, and its nodes
 graph-back : (G : Rules.Graph) (Gs : List Rules.Graph) (t : Table) → t .graphs < length (t .graph) → t .nodes + length (G .nodes) ≤ length (t .node) → graphFormed G ≡ true
@@ -86,17 +84,17 @@ graphs-back (G ∷ Gs) t h l e =
     ∙ ap (λ (i : ℕ). G ∷ tab at i (length Gs)) (sym (add-one (t .graphs)))
     ∙ ap (λ (Hs : List Rules.Graph). G ∷ Hs) (graphs-back Gs (withGraph t G) (omega arith) (omega arith) (second-of (graphFormed G) (all? graphFormed Gs) e))
 
-graphs-counted : (Gs : List Rules.Graph) (t : Table) → withGraphs t Gs .graphs ≡ t .graphs + length Gs
+pub graphs-counted : (Gs : List Rules.Graph) (t : Table) → withGraphs t Gs .graphs ≡ t .graphs + length Gs
 unfolding withGraphs
 graphs-counted [] t = omega arith
 graphs-counted (G ∷ Gs) t = graphs-counted Gs (withGraph t G) ∙ omega arith
 
-processors-stay : (Gs : List Rules.Graph) (t : Table) → withGraphs t Gs .processors ≡ t .processors
+pub processors-stay : (Gs : List Rules.Graph) (t : Table) → withGraphs t Gs .processors ≡ t .processors
 unfolding withGraphs
 processors-stay [] t = refl
 processors-stay (G ∷ Gs) t = processors-stay Gs (withGraph t G)
 
-rounds-stay : (Gs : List Rules.Graph) (t : Table) → withGraphs t Gs .rounds ≡ t .rounds
+pub rounds-stay : (Gs : List Rules.Graph) (t : Table) → withGraphs t Gs .rounds ≡ t .rounds
 unfolding withGraphs
 rounds-stay [] t = refl
 rounds-stay (G ∷ Gs) t = rounds-stay Gs (withGraph t G)

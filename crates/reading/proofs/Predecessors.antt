@@ -11,7 +11,7 @@ use borrow.Author.Tests.{le-ltb, leb-true, leb-false}
 use Rattle.rules.specs.Bytes.{bytes, comma, digitZero, isDigit, valueOf}
 use Rattle.rules.specs.Spelling.{Scan, read, wrong, _⟫_, text, digits, number, numbersBy, numbers, next?, letterN, list}
 use Rattle.rules.specs.WellFormed.{rising, orderly}
-use Rattle.rules.proofs.Formed.{by-test}
+use Rattle.rules.proofs.Tests.{by-test}
 use Rattle.numbers.specs.Masks.{with}
 use Rattle.reading.specs.declared.lists.Listing.{Listing}
 use Rattle.reading.specs.Positions.{mapScan, far, kept, capped}

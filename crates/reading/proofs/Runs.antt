@@ -18,7 +18,7 @@ use Rattle.rules.specs.Table.{Node}
 use Rattle.rules.specs.WellFormed.{within, orderly}
 use Rattle.rules.specs.Reading.{Place, Outcome, refused, done, _and-then_, judged, numberLine, afterLine, node, nodesFrom}
 use Rattle.rules.proofs.Outcomes.{Holds, then-holds, number-line-holds, after-line-holds}
-use Rattle.rules.proofs.Formed.{by-test}
+use Rattle.rules.proofs.Tests.{by-test}
 use Rattle.table.specs.declared.Node.{Node as Row}
 use Rattle.reading.specs.declared.tables.Three.{Three}
 use Rattle.reading.specs.Masks.{maskOf}

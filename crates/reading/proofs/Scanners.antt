@@ -11,7 +11,8 @@ use lib.Seq.{drop-cons, length-take-le, getD-take}
 use borrow.Author.Tests.{eq-eqb, ne-eqb, leb-true, leb-false}
 use Rattle.rules.specs.Bytes.{digitZero, isDigit, valueOf}
 use Rattle.rules.specs.Spelling.{read, wrong, text, digits, number, next?}
-use Rattle.rules.proofs.Formed.{by-test, first-of, second-of}
+use Rattle.rules.proofs.Formed.{first-of, second-of}
+use Rattle.rules.proofs.Tests.{by-test}
 use Rattle.reading.specs.Positions.{far, kept, capped}
 
 -- one more byte: the code's p + 1

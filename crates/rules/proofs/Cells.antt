@@ -19,10 +19,11 @@ module _ {B : Type 0} where
   getD-tab-out f a (suc n) zero d h = absurd (not-suc-le-zero h)
   getD-tab-out f a (suc n) (suc i) d h = getD-tab-out f (suc a) n i d (le-of-suc-le-suc h)
 
-pub getD-map : (f : ℕ → ℕ) (l : List ℕ) (k : ℕ) → k < length l → getD (map f l) k 0 ≡ f (getD l k 0)
-getD-map f [] k h = absurd (not-suc-le-zero h)
-getD-map f (x ∷ xs) zero h = refl
-getD-map f (x ∷ xs) (suc k) h = getD-map f xs k (omega arith)
+-- an entry of a list whose entries were all mapped
+pub getD-map : {A B : Type 0} (f : A → B) (l : List A) (k : ℕ) (d : A) (e : B) → k < length l → getD (map f l) k e ≡ f (getD l k d)
+getD-map f [] k d e h = absurd (not-suc-le-zero h)
+getD-map f (x ∷ xs) zero d e h = refl
+getD-map f (x ∷ xs) (suc k) d e h = getD-map f xs k d e (omega arith)
 
 nth-tab : (f : ℕ → ℕ) (n k : ℕ) → 1 ≤ k → k ≤ n → nth (tab f 1 n) k ≡ f k
 nth-tab f n zero h u = absurd (not-suc-le-zero h)

@@ -27,7 +27,7 @@ module _ {A : Type 0} where
       go true e = ap (λ (n : ℕ). one? (p x) + n) e
       go false e = omega arith
 
-  count-append : (p : A → Bool) (l r : List A) → count p (l ++ r) ≡ count p l + count p r
+  pub count-append : (p : A → Bool) (l r : List A) → count p (l ++ r) ≡ count p l + count p r
   count-append p [] r = omega arith
   count-append p (x ∷ xs) r = omega (arith, count-append p xs r)
 

@@ -14,10 +14,6 @@ use Rattle.rules.specs.Table.{Node, Graph, Table}
 use Rattle.rules.specs.WellFormed.{within, orderly, allFollowed, nodesFormed, graphFormed, wellFormed}
 
 -- a test is true or false
-pub by-test : {C : Type 0} (b : Bool) → (b ≡ true → C) → (b ≡ false → C) → C
-by-test true f g = f refl
-by-test false f g = g refl
-
 -- two tests that both pass
 pub both : {a b : Bool} → a ≡ true → b ≡ true → a && b ≡ true
 both {a} {b} e f = rw (e, f)

@@ -23,5 +23,5 @@ unfolding figures
 figures-are-least-true X ok k e g l =
     let w = whole (boxOf X .servers) in
     let (in-list, in-S, some) = sink-is X ok g l in
-    rw (getD-map (λ (i : ℕ). figure (boxOf X) w i ((walkOf X) .ticks)) (boxOf X .sinks) g in-list)
+    rw (getD-map (λ (i : ℕ). figure (boxOf X) w i ((walkOf X) .ticks)) (boxOf X .sinks) g 0 0 in-list)
     (least-true-box (boxOf X) (periodsOf X ok) (table-sound X ok) k e (getD (boxOf X .sinks) g 0) in-S some)

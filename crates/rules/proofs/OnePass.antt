@@ -1,7 +1,7 @@
 -- The walk computed in one pass. What it carries from instant to instant are the values of the plain definitions of specs/Walk.antt, so it
 -- gives what they give, and antt computes it in steps linear in the ticks. Shown at the end: `one-pass`, that the two are equal for every box.
 use mathlib.Core.Path.{_≡_, refl, sym, ap, _∙_}
-use mathlib.Core.Bool.{Bool, true, false, _&&_, cond}
+use mathlib.Core.Bool.{_&&_, cond}
 use mathlib.Core.List.{List, [], _∷_, map}
 use mathlib.Core.Option.{Option, none, some}
 use Prim.Native.Nat.{ℕ, zero, suc, _+_, _-_, _%_, _≤_, _<_, max}
@@ -15,6 +15,7 @@ use Rattle.rules.specs.ServerJobs.{tick, used}
 use Rattle.rules.specs.Links.{link, links}
 use Rattle.rules.specs.State.{State, state, stateAt}
 use Rattle.rules.specs.Walk.{Stop, unsettled, Stopped, Walked, atBoundary, boundary, stopWith, stopAt, firstStop, stopped, finishing, figure, figures, walked}
+use Rattle.rules.proofs.Tests.{by-test}
 
 module _ (X : Box) (need : ℕ → ℕ → ℕ) where
   -- the largest responses so far of each sink, one instant on
@@ -45,10 +46,6 @@ module _ (X : Box) (need : ℕ → ℕ → ℕ) where
       passFrom (suc (boundary X need (X .rounds))) 0 [] [] (record { phases = []; nodes = [] }) (map (λ (i : ℕ). 0) (X .sinks))
 
 -- a test is true or false; a number is below another or not
-by-test : {C : Type 0} (b : Bool) → (b ≡ true → C) → (b ≡ false → C) → C
-by-test true f g = f refl
-by-test false f g = g refl
-
 by-less : {C : Type 0} (a b : ℕ) → (a < b → C) → (b ≤ a → C) → C
 by-less {C} a b f g = go (decLt a b)
   where

@@ -9,7 +9,7 @@ use Rattle.rules.specs.Keys as Keys
 use Rattle.rules.specs.Spelling.{Scan, read, wrong, number, list, line}
 use Rattle.rules.specs.WellFormed.{within, orderly}
 use Rattle.rules.specs.Reading.{Place, Outcome, refused, done, _and-then_, judged, numberLine, afterLine}
-use Rattle.rules.proofs.Formed.{by-test}
+use Rattle.rules.proofs.Tests.{by-test}
 
 module _ {A : Type 0} where
   -- P holds of the value and the place, where there are any

@@ -16,7 +16,8 @@ use Rattle.rules.specs.Table.{Graph, Table, hyperperiod, loadable}
 use Rattle.rules.specs.WellFormed.{within, orderly, allFollowed, nodesFormed, graphFormed, wellFormed}
 use Rattle.rules.specs.Reading.{Place, Outcome, refused, done, numberLine, afterLine, node, nodesFrom, graphNodes, graph, graphsFrom, ended, table, readOf, Admission, admitted, admit, admitRead, admissionOf}
 use Rattle.rules.specs.Reading as Reading
-use Rattle.rules.proofs.Formed.{by-test, both, within-limits, limits-within, graph-formed}
+use Rattle.rules.proofs.Formed.{both, within-limits, limits-within, graph-formed}
+use Rattle.rules.proofs.Tests.{by-test}
 use Rattle.rules.proofs.Outcomes.{Holds, told, then-holds, number-line-holds, after-line-holds}
 
 -- a node has three lines

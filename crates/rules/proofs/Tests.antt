@@ -51,6 +51,10 @@ pub dec : (b : Bool) → (b ≡ true) ⊎ (b ≡ false)
 dec true = inl refl
 dec false = inr refl
 
+pub by-test : {C : Type 0} (b : Bool) → (b ≡ true → C) → (b ≡ false → C) → C
+by-test true f g = f refl
+by-test false f g = g refl
+
 pub T-true : {b : Bool} → T b → b ≡ true
 T-true {b = true} t = refl
 T-true {b = false} t = absurd t

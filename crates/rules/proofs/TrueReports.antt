@@ -1,9 +1,9 @@
 -- A report that is given is true: from the bytes of a table to its text, each `response=` is the least true figure of its graph.
 use mathlib.Core.Path.{_≡_, refl, sym, ap, _∙_}
-use mathlib.Core.List.{List, [], _∷_, map}
-use Prim.Native.Nat.{ℕ, suc}
+use mathlib.Core.List.{List}
+use Prim.Native.Nat.{ℕ}
 use native.Mathlib.Omega.{arith}
-use lib.ListN.{length}
+use lib.ListN.{length-map}
 use Rattle.rules.specs.declared.Refusal.{Refusal}
 use Rattle.rules.specs.declared.Refusal.the-variants.{TooLong, Misspelled, OutsideLimits, AgainstPredecessorRules, LongHyperperiod, NotLoadable}
 use Rattle.rules.specs.declared.Refusal.the-variants.{Backlog, Unsettled, PastTheStop, ShortBuffer}
@@ -17,10 +17,6 @@ use Rattle.rules.specs.Demands.{TrueReport}
 use Rattle.rules.proofs.ReadWellFormed.{admitted-well-formed}
 use Rattle.rules.proofs.TableBox.{length-sinks}
 use Rattle.rules.proofs.LeastTrue.{figures-are-least-true}
-
-length-map : {A B : Type 0} (f : A → B) (l : List A) → length (map f l) ≡ length l
-length-map f [] = refl
-length-map f (x ∷ xs) = ap suc (length-map f xs)
 
 -- no refusal has the number 0
 number-some : (r : Refusal) → numberOf r ≡ 0 → ⊥
@@ -52,7 +48,7 @@ module _ (bytes : List ℕ) where
         ticks = w .ticks;
         figures = w .figures;
         text = report-is U e (settled k) h;
-        many = length-map _ (boxOf U .sinks) ∙ length-sinks 0 (U .graphs);
+        many = length-map (boxOf U .sinks) _ ∙ length-sinks 0 (U .graphs);
         least-true = λ g l. figures-are-least-true U ((admitted-well-formed bytes U e) .0) k h g l;
       }
 

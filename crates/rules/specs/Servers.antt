@@ -20,10 +20,9 @@ pub record Server : Type 0 where
 abbrev pub noServer : Server
 noServer = record { graph = 0; node = 0; period = 1; offset = 0; point = 0; budget = 0; level = 1; predecessors = [] }
 
--- the servers of nodes v and on of graph number g, whose node 1 has the place `base`
-unfoldable pub ofNodes : ℕ → ℕ → ℕ → Graph → List Node → List Server
-ofNodes base g v G [] = []
-ofNodes base g v G (x ∷ xs) =
+-- the server of node number v of graph number g, whose node 1 has the place `base`
+abbrev pub serverOf : ℕ → ℕ → ℕ → Graph → Node → Server
+serverOf base g v G x =
     record {
       graph = g;
       node = v;
@@ -34,7 +33,11 @@ ofNodes base g v G (x ∷ xs) =
       level = x .level;
       predecessors = map (λ (p : ℕ). base + (p - 1)) (x .after);
     }
-    ∷ ofNodes base g (suc v) G xs
+
+-- the servers of nodes v and on of graph number g, whose node 1 has the place `base`
+unfoldable pub ofNodes : ℕ → ℕ → ℕ → Graph → List Node → List Server
+ofNodes base g v G [] = []
+ofNodes base g v G (x ∷ xs) = serverOf base g v G x ∷ ofNodes base g (suc v) G xs
 
 -- by graph number, then node number: rule 5's order of servers
 unfoldable pub ofGraphs : ℕ → ℕ → List Graph → List Server

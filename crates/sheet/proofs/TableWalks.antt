@@ -1,13 +1,13 @@
 -- The walk of an admitted table in memory is the rules' walk of the table: to its stop, or to an instant asked before it; and the figures that
 -- its windows have kept are the rules' figures.
-use mathlib.Core.Path.{_≡_, refl, sym, ap, subst, _∙_}
+use mathlib.Core.Path.{_≡_, sym, ap, subst, _∙_}
 use mathlib.Core.List.{List, [], _∷_, map}
 use mathlib.Core.Logic.{_⊎_}
 use Prim.Native.Nat.{ℕ, zero, suc, _+_, _-_, _≤_, _<_}
 use native.Mathlib.Nat.{not-suc-le-zero}
 use native.Mathlib.Omega.{arith}
 use lib.Dec.{T}
-use lib.ListN.{length, getD, take, replicate}
+use lib.ListN.{length, getD, take, replicate, length-map}
 use lib.Seq.{ext-getD, getD-take, length-take-le}
 use borrow.Author.Tests.{lt-ltb, le-ltb}
 use Rattle.rules.specs.Limits as Limits
@@ -23,12 +23,14 @@ use Rattle.table.specs.declared.Table.{Table as Memory}
 use Rattle.window.specs.Entries.{places}
 use Rattle.window.proofs.Loops.{replaced-length, replaced-in}
 use Rattle.window.proofs.Relation.{InStep}
-use Rattle.reading.specs.Memory.{withGraphs, withGraph, memoryOf}
+use Rattle.reading.specs.Memory.{memoryOf}
 use Rattle.reading.specs.Admission.{codedAdmission}
 use Rattle.reading.specs.declared.admission.Admitted.{Admitted}
 use Rattle.planning.specs.Plans.{planOf}
 use Rattle.planning.specs.Offsets.{offsetsOf}
 use Rattle.planning.proofs.Located.{graphAt, firstOf, first-within}
+use Rattle.rules.proofs.Cells.{getD-map}
+use Rattle.reading.proofs.MemoryLaws.{rounds-stay}
 use Rattle.planning.proofs.Memory.{codedGraph}
 use Rattle.planning.proofs.NodeFits.{few, room, laid}
 use Rattle.planning.proofs.Fits.{plan-fits, offsets-sized, offsets-fit, largest-fits}
@@ -39,26 +41,12 @@ use Rattle.walking.proofs.Walked.{stop, AtStop, BeforeStop, walked-is}
 use Rattle.sheet.specs.Figures.{sinkOf, figureOf, figuresOf}
 use Rattle.sheet.specs.Walks.{Walkable, walkOfTable}
 
-rounds-stay : (Gs : List Graph) (t : Memory) → withGraphs t Gs .rounds ≡ t .rounds
-unfolding withGraphs
-rounds-stay [] t = refl
-rounds-stay (G ∷ Gs) t = rounds-stay Gs (withGraph t G)
-
 -- the sink of graph g is its last node
 sink-place : (base : ℕ) (Gs : List Graph) (g : ℕ) → g < length Gs → getD (sinksOf base Gs) g 0 ≡ base + firstOf Gs g + length (graphAt Gs g .nodes) - 1
 unfolding sinksOf firstOf
 sink-place base [] g h = absurd (not-suc-le-zero h)
 sink-place base (G ∷ Gs) zero h = omega arith
 sink-place base (G ∷ Gs) (suc g) h = sink-place (base + length (G .nodes)) Gs g (omega arith) ∙ omega arith
-
-getD-map : (f : ℕ → ℕ) (l : List ℕ) (k : ℕ) → k < length l → getD (map f l) k 0 ≡ f (getD l k 0)
-getD-map f [] k h = absurd (not-suc-le-zero h)
-getD-map f (x ∷ xs) zero h = refl
-getD-map f (x ∷ xs) (suc k) h = getD-map f xs k (omega arith)
-
-length-map : (f : ℕ → ℕ) (l : List ℕ) → length (map f l) ≡ length l
-length-map f [] = refl
-length-map f (x ∷ xs) = ap suc (length-map f xs)
 
 module _ (U : Table) (ok : T (wellFormed U)) (short : hyperperiod U ≤ Limits.hyperperiod .to) where
   abbrev pub X : Box
@@ -123,11 +111,11 @@ module _ (U : Table) (ok : T (wellFormed U)) (short : hyperperiod U ≤ Limits.h
         let long : length (figuresOf M st) ≡ Limits.graphs .to = replaced-length (figureOf M st) zeros (Limits.graphs .to) in
         let cut : length (take (M .graphs) (figuresOf M st)) ≡ M .graphs = length-take-le (M .graphs) (figuresOf M st) (omega (arith, few-graphs)) in
         let whole-length : length (map (λ (i : ℕ). figure X (whole (X .servers)) i t) (X .sinks)) ≡ length (U .graphs) =
-        length-map (λ (i : ℕ). figure X (whole (X .servers)) i t) (X .sinks) ∙ length-sinks 0 (U .graphs) in
+        length-map (X .sinks) (λ (i : ℕ). figure X (whole (X .servers)) i t) ∙ length-sinks 0 (U .graphs) in
         ext-getD 0 (take (M .graphs) (figuresOf M st)) (map (λ (i : ℕ). figure X (whole (X .servers)) i t) (X .sinks)) (omega (arith, graphs-are))
         (λ g h.
         let inside : g < length (U .graphs) = omega (arith, graphs-are) in
         getD-take (M .graphs) (figuresOf M st) g 0 (omega arith)
         ∙ replaced-in (figureOf M st) zeros (Limits.graphs .to) g 0 (omega (arith, few-graphs)) (omega arith)
         ∙ figure-is g inside
-        ∙ sym (getD-map (λ (i : ℕ). figure X (whole (X .servers)) i t) (X .sinks) g (omega (arith, length-sinks 0 (U .graphs)))))
+        ∙ sym (getD-map (λ (i : ℕ). figure X (whole (X .servers)) i t) (X .sinks) g 0 0 (omega (arith, length-sinks 0 (U .graphs)))))

@@ -17,7 +17,7 @@ use Rattle.rules.proofs.Tests.{by-lt, bool-ext, one-le-one}
 use Rattle.rules.proofs.Counts.{count-mono}
 use Rattle.window.specs.Entries.{lastKey}
 use Rattle.window.specs.Choosing.{Carried, carriedAt, carriedTo, inserted, chosen}
-use Rattle.window.proofs.JobLists.{count-append}
+use Rattle.rules.proofs.Counts.{count-append}
 
 -- how many keys are below x
 unfoldable pub below : List ℕ → ℕ → ℕ

@@ -21,7 +21,8 @@ use Rattle.window.specs.Entries.{places}
 use Rattle.window.proofs.Relation.{lastInstant, Fits, Released}
 use Rattle.window.proofs.Choice.{below}
 use Rattle.window.proofs.Instants.{next-priority}
-use Rattle.window.proofs.JobLists.{count-append, count-map}
+use Rattle.rules.proofs.Counts.{count-append}
+use Rattle.window.proofs.JobLists.{count-map}
 use Rattle.window.proofs.Keys.{keyOf, readySlots, keysIn, ready-jobs, keys-laid-out, Standing}
 
 -- below the next number are the keys below this one, and those equal to it

@@ -21,10 +21,6 @@ module _ {A : Type 0} where
       let e : a + suc n ≡ suc a + n = omega arith in
       rw (e, joined-last f (suc a) n, ← append-assoc (f a) (joined f (suc a) n) (f (suc a + n)))
 
-  pub count-append : (p : A → Bool) (l r : List A) → count p (l ++ r) ≡ count p l + count p r
-  count-append p [] r = omega arith
-  count-append p (x ∷ l) r = omega (arith, count-append p l r)
-
   pub count-same : (p q : A → Bool) → ((x : A) → p x ≡ q x) → (l : List A) → count p l ≡ count q l
   count-same p q h [] = refl
   count-same p q h (x ∷ l) = rw (h x, count-same p q h l)

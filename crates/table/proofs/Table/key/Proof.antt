@@ -6,7 +6,7 @@ use lib.ListN.{length, List·getD-eq-default}
 use borrow.Author.Needs.{needs}
 use Rattle.rules.specs.Keys.{keys, noKey}
 use Rattle.table.specs.Keys.{codedKey}
-use Rattle.table.proofs.Lists.{getD-map}
+use Rattle.rules.proofs.Cells.{getD-map}
 use Rattle.table.proofs.Table.key.Statement.{statement}
 use Rattle.table.proofs.Table.key.Tie as tie
 
