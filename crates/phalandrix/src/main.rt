@@ -1,13 +1,15 @@
 // The program: a table on standard input; on standard output its report or, with `row T`, its row at instant T.
+mod answering;
 mod input;
 mod output;
 
+use answering::Question;
+use answering::put_answer;
 use input::Input;
 use input::read_table;
 use libc::STDERR_FILENO;
-use output::print_answer;
+use output::print;
 use reading::Instant;
-use rules::Answer;
 use table::Table;
 
 // One byte more than a table may have: no more is read of a longer one, and that is enough to refuse it.
@@ -23,26 +25,14 @@ fn print_usage() {
     );
 }
 
-enum Question {
-    Report,
-    Row(u32),
-}
-
-fn asked(q: Question, table: &[u8], text: &mut [u8]) -> Answer {
-    match q {
-        Question::Report => sheet::report(table, text),
-        Question::Row(instant) => sheet::row(table, instant as u64, text),
-    }
-}
-
 fn answer(q: Question) {
     let mut space = [0u8; TABLE_ROOM];
     let mut text = io::buffer();
     match read_table(&mut space) {
         Input::Failed => os::fail(b"standard input"),
         Input::Bytes(n) => {
-            let a = asked(q, &space[..n], &mut text);
-            print_answer(a, &text);
+            let m = put_answer(q, &space[..n], &mut text);
+            print(&text[..m]);
         }
     }
 }

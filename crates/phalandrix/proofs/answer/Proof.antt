@@ -1,4 +1,4 @@
--- `answer` meets its contract: no more bytes are passed on than were read.
+-- `answer` meets its contract: no more bytes are passed on than were read, and none but the answer's are printed.
 use mathlib.Core.Path.{sym}
 use lib.Seq.{length-take-le}
 use borrow.Author.Needs.{needs}
@@ -29,21 +29,24 @@ enum-known-n c = search needs
 array-share-prefix-space : tie.Need-array-share-prefix-space
 array-share-prefix-space c = search (needs, rw (c .before .n .given .1) at (c .before .before .before .before .read-table .ensures))
 
-slice-aggregate-asked : tie.Need-slice-aggregate-asked
-slice-aggregate-asked c =
+slice-aggregate-put-answer : tie.Need-slice-aggregate-put-answer
+slice-aggregate-put-answer c =
     sym (length-take-le _ _ (search (needs, rw (c .before .before .n .given .1) at (c .before .before .before .before .before .read-table .ensures))))
 
-slice-aggregate-asked-2 : tie.Need-slice-aggregate-asked-2
-slice-aggregate-asked-2 c = search needs
+slice-aggregate-put-answer-2 : tie.Need-slice-aggregate-put-answer-2
+slice-aggregate-put-answer-2 c = search needs
 
-asked-requires : tie.Need-asked-requires
-asked-requires c κs = search needs
+put-answer-requires : tie.Need-put-answer-requires
+put-answer-requires c κs = search needs
 
-slice-aggregate-print-answer : tie.Need-slice-aggregate-print-answer
-slice-aggregate-print-answer c = search needs
+array-share-prefix-text : tie.Need-array-share-prefix-text
+array-share-prefix-text c = search needs
 
-print-answer-requires : tie.Need-print-answer-requires
-print-answer-requires c κs = search needs
+slice-aggregate-print : tie.Need-slice-aggregate-print
+slice-aggregate-print c = sym (length-take-le _ _ (c .before .before .put-answer .ensures .0))
+
+print-requires : tie.Need-print-requires
+print-requires c κs = search needs
 
 returns : tie.Need-returns
 returns c = search needs
@@ -63,10 +66,11 @@ answer-spec =
     fail-requires
     enum-known-n
     array-share-prefix-space
-    slice-aggregate-asked
-    slice-aggregate-asked-2
-    asked-requires
-    slice-aggregate-print-answer
-    print-answer-requires
+    slice-aggregate-put-answer
+    slice-aggregate-put-answer-2
+    put-answer-requires
+    array-share-prefix-text
+    slice-aggregate-print
+    print-requires
     returns
     returns-2)

@@ -1,0 +1,58 @@
+-- What a call left in its buffer is what the program prints: the text as it stands there, or the refusal written in its place.
+use mathlib.Core.Path.{_≡_, sym, ap, subst}
+use mathlib.Core.Bool.{Bool, true, false}
+use mathlib.Core.List.{List, _++_}
+use Prim.Native.Nat.{ℕ, _≤_}
+use native.Mathlib.Omega.{arith}
+use lib.ListN.{length, take, drop, length-append}
+use lib.Seq.{take-append-seam}
+use lib.Dec.{T}
+use Rattle.rules.specs.declared.Answer.{Answer}
+use Rattle.rules.specs.declared.Answer.the-variants.{Text, Refused}
+use Rattle.rules.specs.declared.Refusal.{Refusal}
+use Rattle.rules.specs.declared.Refusal.the-variants.{TooLong}
+use Rattle.rules.specs.Answers.{Reply, says, refuses, printed, fitted, Call, left, callOf}
+use Rattle.writing.specs.Written.{Written}
+use Rattle.sheet.specs.Calls.{called}
+
+abbrev toldIn : Answer → ℕ
+toldIn (Text n) = n
+toldIn (Refused r) = 0
+
+abbrev refusalIn : Answer → Refusal
+refusalIn (Text n) = TooLong
+refusalIn (Refused r) = r
+
+abbrev isText : Answer → Bool
+isText (Text n) = true
+isText (Refused r) = false
+
+-- a text at the start of what there is
+at-start : (s rest after : List ℕ) (n : ℕ) → n ≡ length s → after ≡ s ++ rest → (n ≤ length after) × (take n after ≡ s)
+at-start s rest after n e f = rw (e, f) (omega (arith, length-append s rest), take-append-seam s rest)
+
+module _ (before after : List ℕ) where
+  text-left : (n : ℕ) (r : Reply) → called (Text n) after ≡ left before r → (n ≤ length after) × (take n after ≡ printed r)
+  unfolding left printed
+  text-left n (says s) e =
+      at-start s (drop (length s) before) after n (ap (λ (c : Call). toldIn (c .answer)) e) (ap (λ (c : Call). c .buffer) e)
+  text-left n (refuses r) e = absurd (subst T (ap (λ (c : Call). isText (c .answer)) e) tt)
+
+  refusal-left : (f : Refusal) (r : Reply) → called (Refused f) after ≡ left before r → r ≡ refuses f
+  unfolding left
+  refusal-left f (says s) e = absurd (subst T (ap (λ (c : Call). isText (c .answer)) (sym e)) tt)
+  refusal-left f (refuses g) e = ap (λ (c : Call). refuses (refusalIn (c .answer))) (sym e)
+
+  module _ (reply : Reply) where
+    pub text-printed : (n : ℕ) → called (Text n) after ≡ callOf before reply
+        → (n ≤ length after) × (take n after ≡ printed (fitted (length before) reply))
+    unfolding callOf
+    text-printed n e = text-left n (fitted (length before) reply) e
+
+    pub refusal-printed : (f : Refusal) (over : List ℕ) (n m : ℕ) → called (Refused f) after ≡ callOf before reply → n ≡ length (printed (refuses f))
+        → Written (printed (refuses f)) after over m → (n ≤ length over) × (take n over ≡ printed (fitted (length before) reply))
+    unfolding callOf
+    refusal-printed f over n m e size w =
+        let is : fitted (length before) reply ≡ refuses f = refusal-left f (fitted (length before) reply) e in
+        let text : List ℕ = printed (refuses f) in
+        rw is (at-start text (drop (length text) after) over n size (w .bytes))

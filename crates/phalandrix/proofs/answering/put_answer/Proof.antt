@@ -1,0 +1,51 @@
+-- `put_answer` meets its contract, by what the call answered.
+use Rattle.phalandrix.proofs.Printed.{text-printed, refusal-printed}
+use borrow.Author.Needs.{needs}
+use Rattle.phalandrix.proofs.answering.put_answer.Statement.{statement}
+use Rattle.phalandrix.proofs.answering.put_answer.Tie as tie
+
+asked-requires : tie.Need-asked-requires
+asked-requires c κs = search needs
+
+enum-known-a : tie.Need-enum-known-a
+enum-known-a c = search needs
+
+enum-known-a-2 : tie.Need-enum-known-a-2
+enum-known-a-2 c = search needs
+
+refusal-length-requires : tie.Need-refusal-length-requires
+refusal-length-requires c κs = search needs
+
+put-refusal-requires : tie.Need-put-refusal-requires
+put-refusal-requires c κs = search needs
+
+same-length : tie.Need-same-length
+same-length c = search needs
+
+returns : tie.Need-returns
+returns c =
+    let call = c .before .before .before .before .before .asked .ensures in
+    text-printed _ _ _ _ (rw (c .before .a .given .1) at call)
+
+same-length-2 : tie.Need-same-length-2
+same-length-2 c = search needs
+
+returns-2 : tie.Need-returns-2
+returns-2 c =
+    let told = c .before .before .before .before in
+    let call = told .before .before .before .before .before .before .asked .ensures in
+    refusal-printed _ _ _ _ _ _ _ (rw (told .before .before .a2 .given .1) at call) (told .refusal-length .ensures .size) (c .before .before .put-refusal .ensures)
+
+pub put-answer-spec : {M : Type 1} → statement M
+put-answer-spec =
+    tie.close
+    (tie.spec
+    asked-requires
+    enum-known-a
+    enum-known-a-2
+    refusal-length-requires
+    put-refusal-requires
+    same-length
+    returns
+    same-length-2
+    returns-2)

@@ -1,0 +1,10 @@
+-- The reply to a question about a table: its report, or its row at an instant.
+use mathlib.Core.List.{List}
+use Prim.Native.Nat.{ℕ}
+use Rattle.rules.specs.Answers.{Reply, reportOf, rowOf}
+use Rattle.phalandrix.specs.declared.answering.Question.{Question}
+use Rattle.phalandrix.specs.declared.answering.Question.the-variants.{Report, Row}
+
+abbrev pub replyOf : Question → List ℕ → Reply
+replyOf Report s = reportOf s
+replyOf (Row t) s = rowOf s t

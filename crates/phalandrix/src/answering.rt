@@ -1,0 +1,39 @@
+// What the program prints for a question about a table.
+use rules::Answer;
+ghost use mathlib.Core.Path.{_≡_};
+ghost use Prim.Native.Nat.{_≤_};
+ghost use lib.ListN.{length, take};
+ghost use Rattle.rules.specs.Answers.{printed, fitted, callOf};
+ghost use Rattle.writing.specs.Lengths.{longestRefusal};
+ghost use Rattle.sheet.specs.Calls.{called};
+ghost use Rattle.phalandrix.specs.Questions.{replyOf};
+
+pub enum Question {
+    Report,
+    Row(u32),
+}
+
+pub fn asked(q: Question, table: &[u8], text: &mut [u8]) -> Answer
+    ensures { λ r. ⌜ called r (now (text .exit)) ≡ callOf (now (text .entry)) (replyOf q (now (table .entry))) ⌝ }
+{
+    match q {
+        Question::Report => sheet::report(table, text),
+        Question::Row(instant) => sheet::row(table, instant as u64, text),
+    }
+}
+
+// The answer's text, or a refusal's number and line. A text longer than the room for it is refused as 10.
+pub fn put_answer(q: Question, table: &[u8], text: &mut [u8]) -> usize
+    requires { ⌜ longestRefusal ≤ length (now text) ⌝ }
+    ensures { λ n. ⌜ (n ≤ length (now (text .exit))) × (take n (now (text .exit)) ≡ printed (fitted (length (now (text .entry))) (replyOf q (now (table .entry))))) ⌝ }
+{
+    let a = asked(q, table, &mut *text);
+    match a {
+        Answer::Text(n) => n,
+        Answer::Refused(f) => {
+            let n = writing::refusal_length(f);
+            writing::put_refusal(&mut *text, f);
+            n
+        }
+    }
+}
