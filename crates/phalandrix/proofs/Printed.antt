@@ -1,5 +1,6 @@
--- What a call left in its buffer is what the program prints: the text as it stands there, or the refusal written in its place.
-use mathlib.Core.Path.{_≡_, sym, ap, subst}
+-- What a call left in its buffer is what the program prints: the text as it stands there, or the refusal written in its place. No text is longer
+-- than the room for it.
+use mathlib.Core.Path.{_≡_, refl, sym, ap, subst}
 use mathlib.Core.Bool.{Bool, true, false}
 use mathlib.Core.List.{List, _++_}
 use Prim.Native.Nat.{ℕ, _≤_}
@@ -11,8 +12,15 @@ use Rattle.rules.specs.declared.Answer.{Answer}
 use Rattle.rules.specs.declared.Answer.the-variants.{Text, Refused}
 use Rattle.rules.specs.declared.Refusal.{Refusal}
 use Rattle.rules.specs.declared.Refusal.the-variants.{TooLong}
-use Rattle.rules.specs.Answers.{Reply, says, refuses, printed, fitted, Call, left, callOf}
+use Rattle.rules.specs.Answers.{Reply, says, refuses, printed, reportOf, rowOf, fitted, Call, left, callOf}
 use Rattle.writing.specs.Written.{Written}
+use Rattle.writing.specs.Lengths.{longestReport, longestRow}
+use Rattle.sheet.proofs.Room.{every-report-fits}
+use Rattle.sheet.proofs.RowRoom.{every-row-fits}
+use Rattle.phalandrix.specs.declared.answering.Question.{Question}
+use Rattle.phalandrix.specs.declared.answering.Question.the-variants.{Report, Row}
+use Rattle.phalandrix.specs.Questions.{replyOf}
+use borrow.Author.Tests.{le-leb}
 use Rattle.sheet.specs.Calls.{called}
 
 abbrev toldIn : Answer → ℕ
@@ -43,16 +51,28 @@ module _ (before after : List ℕ) where
   refusal-left f (says s) e = absurd (subst T (ap (λ (c : Call). isText (c .answer)) (sym e)) tt)
   refusal-left f (refuses g) e = ap (λ (c : Call). refuses (refusalIn (c .answer))) (sym e)
 
-  module _ (reply : Reply) where
-    pub text-printed : (n : ℕ) → called (Text n) after ≡ callOf before reply
-        → (n ≤ length after) × (take n after ≡ printed (fitted (length before) reply))
-    unfolding callOf
-    text-printed n e = text-left n (fitted (length before) reply) e
+-- a text that fits is not refused as 10
+fits : (r : Reply) (n m : ℕ) → ((s : List ℕ) → r ≡ says s → length s ≤ m) → m ≤ n → fitted n r ≡ r
+unfolding fitted
+fits (says s) n m h l = rw (le-leb (length s) n (omega (arith, h s refl)))
+fits (refuses r) n m h l = refl
 
-    pub refusal-printed : (f : Refusal) (over : List ℕ) (n m : ℕ) → called (Refused f) after ≡ callOf before reply → n ≡ length (printed (refuses f))
-        → Written (printed (refuses f)) after over m → (n ≤ length over) × (take n over ≡ printed (fitted (length before) reply))
-    unfolding callOf
-    refusal-printed f over n m e size w =
-        let is : fitted (length before) reply ≡ refuses f = refusal-left f (fitted (length before) reply) e in
-        let text : List ℕ = printed (refuses f) in
-        rw is (at-start text (drop (length text) after) over n size (w .bytes))
+reply-fits : (q : Question) (table : List ℕ) (n : ℕ) → longestRow ≤ n → fitted n (replyOf q table) ≡ replyOf q table
+reply-fits Report table n l = fits (reportOf table) n longestReport (every-report-fits table) (omega arith)
+reply-fits (Row t) table n l = fits (rowOf table t) n longestRow (every-row-fits table t) l
+
+module _ (q : Question) (table before after : List ℕ) (room : longestRow ≤ length before) where
+  answered : (x : Answer) → called x after ≡ callOf before (replyOf q table) → called x after ≡ left before (replyOf q table)
+  unfolding callOf
+  answered x e = rw (reply-fits q table (length before) room) at e
+
+  pub text-printed : (n : ℕ) → called (Text n) after ≡ callOf before (replyOf q table)
+      → (n ≤ length after) × (take n after ≡ printed (replyOf q table))
+  text-printed n e = text-left before after n (replyOf q table) (answered (Text n) e)
+
+  pub refusal-printed : (f : Refusal) (over : List ℕ) (n m : ℕ) → called (Refused f) after ≡ callOf before (replyOf q table)
+      → n ≡ length (printed (refuses f)) → Written (printed (refuses f)) after over m → (n ≤ length over) × (take n over ≡ printed (replyOf q table))
+  refusal-printed f over n m e size w =
+      let is : replyOf q table ≡ refuses f = refusal-left before after f (replyOf q table) (answered (Refused f) e) in
+      let text : List ℕ = printed (refuses f) in
+      rw is (at-start text (drop (length text) after) over n size (w .bytes))

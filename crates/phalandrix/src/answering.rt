@@ -3,8 +3,8 @@ use rules::Answer;
 ghost use mathlib.Core.Path.{_≡_};
 ghost use Prim.Native.Nat.{_≤_};
 ghost use lib.ListN.{length, take};
-ghost use Rattle.rules.specs.Answers.{printed, fitted, callOf};
-ghost use Rattle.writing.specs.Lengths.{longestRefusal};
+ghost use Rattle.rules.specs.Answers.{printed, callOf};
+ghost use Rattle.writing.specs.Lengths.{longestRow};
 ghost use Rattle.sheet.specs.Calls.{called};
 ghost use Rattle.phalandrix.specs.Questions.{replyOf};
 
@@ -22,10 +22,10 @@ pub fn asked(q: Question, table: &[u8], text: &mut [u8]) -> Answer
     }
 }
 
-// The answer's text, or a refusal's number and line. A text longer than the room for it is refused as 10.
+// The answer's text, or a refusal's number and line. There is room for every text, so none is refused as 10.
 pub fn put_answer(q: Question, table: &[u8], text: &mut [u8]) -> usize
-    requires { ⌜ longestRefusal ≤ length (now text) ⌝ }
-    ensures { λ n. ⌜ (n ≤ length (now (text .exit))) × (take n (now (text .exit)) ≡ printed (fitted (length (now (text .entry))) (replyOf q (now (table .entry))))) ⌝ }
+    requires { ⌜ longestRow ≤ length (now text) ⌝ }
+    ensures { λ n. ⌜ (n ≤ length (now (text .exit))) × (take n (now (text .exit)) ≡ printed (replyOf q (now (table .entry)))) ⌝ }
 {
     let a = asked(q, table, &mut *text);
     match a {

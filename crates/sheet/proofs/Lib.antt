@@ -4,4 +4,8 @@ pub mod TableWalks
 pub mod Reports
 pub mod RowCalls
 pub mod ExportLaws
+pub mod TextLengths
+pub mod RowNumbers
+pub mod Room
+pub mod RowRoom
 pub mod Unique

@@ -24,8 +24,10 @@ same-length c = search needs
 
 returns : tie.Need-returns
 returns c =
-    let call = c .before .before .before .before .before .asked .ensures in
-    text-printed _ _ _ _ (rw (c .before .a .given .1) at call)
+    let asked = c .before .before .before .before .before in
+    let s = asked .before .before .before .before in
+    let call = asked .asked .ensures in
+    text-printed (s .args .q) (s .args .table .now) _ _ (s .pre) _ (rw (c .before .a .given .1) at call)
 
 same-length-2 : tie.Need-same-length-2
 same-length-2 c = search needs
@@ -33,8 +35,10 @@ same-length-2 c = search needs
 returns-2 : tie.Need-returns-2
 returns-2 c =
     let told = c .before .before .before .before in
-    let call = told .before .before .before .before .before .before .asked .ensures in
-    refusal-printed _ _ _ _ _ _ _ (rw (told .before .before .a2 .given .1) at call) (told .refusal-length .ensures .size) (c .before .before .put-refusal .ensures)
+    let asked = told .before .before .before .before .before .before in
+    let s = asked .before .before .before .before in
+    let call = asked .asked .ensures in
+    refusal-printed (s .args .q) (s .args .table .now) _ _ (s .pre) _ _ _ _ (rw (told .before .before .a2 .given .1) at call) (told .refusal-length .ensures .size) (c .before .before .put-refusal .ensures)
 
 pub put-answer-spec : {M : Type 1} → statement M
 put-answer-spec =
