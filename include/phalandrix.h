@@ -36,11 +36,17 @@ enum {
     PHALANDRIX_SHORT_BUFFER = 10        /* the text is longer than the buffer */
 };
 
-/* The report: `answer=0`, `round=`, `ticks=` and one `response=` per graph, a line each. 256 bytes hold every report. */
+/* A buffer of so many bytes holds every report, or every row: with it a call is never refused as PHALANDRIX_SHORT_BUFFER. */
+enum {
+    PHALANDRIX_REPORT_BYTES = 212,
+    PHALANDRIX_ROW_BYTES = 384
+};
+
+/* The report: `answer=0`, `round=`, `ticks=` and one `response=` per graph, a line each. */
 phalandrix_answer phalandrix_report(const uint8_t *table, size_t table_length, uint8_t *buffer, size_t buffer_length);
 
 /* The row at an instant: one line `run=graph,node,server job,invocation` per running server job, in priority order; invocation 0 for one
- * that is not linked; no text for an idle tick. 512 bytes hold every row. */
+ * that is not linked; no text for an idle tick. */
 phalandrix_answer phalandrix_row(const uint8_t *table, size_t table_length, uint64_t instant, uint8_t *buffer, size_t buffer_length);
 
 #ifdef __cplusplus

@@ -10,7 +10,7 @@ static const char table[] =
 static const char report[] = "answer=0\nround=2\nticks=8\nresponse=6\n";
 static const char row[] = "run=1,1,2,2\n";
 
-enum { ROOM = 256, UNTOUCHED = 0xA5 };
+enum { ROOM = PHALANDRIX_ROW_BYTES, UNTOUCHED = 0xA5 };
 
 static int failures;
 

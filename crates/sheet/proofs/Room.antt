@@ -95,3 +95,7 @@ of-admission bytes s (refused f) e r =
 
 pub every-report-fits : (bytes s : List ℕ) → reportOf bytes ≡ says s → length s ≤ longestReport
 every-report-fits bytes s r = of-admission bytes s (admissionOf bytes) refl r
+
+-- as include/phalandrix.h says
+pub report-bytes : longestReport ≡ 212
+report-bytes = refl

@@ -90,3 +90,7 @@ of-admission bytes t s (refused f) e r =
 
 pub every-row-fits : (bytes : List ℕ) (t : ℕ) (s : List ℕ) → rowOf bytes t ≡ says s → length s ≤ longestRow
 every-row-fits bytes t s r = of-admission bytes t s (admissionOf bytes) refl r
+
+-- as include/phalandrix.h says
+pub row-bytes : longestRow ≡ 384
+row-bytes = refl

@@ -6,6 +6,13 @@
 //! none outside the buffer.
 #![deny(unsafe_op_in_unsafe_fn, clippy::undocumented_unsafe_blocks)]
 
+/// A buffer of so many bytes holds every report: with it a report is never
+/// refused as 10.
+pub const REPORT_BYTES: usize = 212;
+
+/// A buffer of so many bytes holds every row.
+pub const ROW_BYTES: usize = 384;
+
 /// What a call returns: number 0, line 0 and the length of the text, or the
 /// number and line of a refusal.
 #[repr(C)]

@@ -1,6 +1,6 @@
 //! The two calls through the C interface, on one table of document 01.
 
-use phalandrix::{Answer, report, row};
+use phalandrix::{Answer, REPORT_BYTES, ROW_BYTES, report, row};
 
 const TABLE: &[u8] = b"processors=1\nrounds=2\ngraphs=1\nperiod=4\noffset=0\nnodes=2\n\
     budget=1\nlevel=1\nafter=none\nbudget=1\nlevel=1\nafter=1\n";
@@ -8,7 +8,7 @@ const REPORT: &[u8] = b"answer=0\nround=2\nticks=8\nresponse=6\n";
 
 #[test]
 fn report_is_written_and_the_rest_left() {
-    let mut buffer = [0xee; 64];
+    let mut buffer = [0xee; REPORT_BYTES];
     assert_eq!(report(TABLE, &mut buffer), Answer { number: 0, line: 0, length: REPORT.len() });
     assert_eq!(&buffer[..REPORT.len()], REPORT);
     assert!(buffer[REPORT.len()..].iter().all(|&byte| byte == 0xee));
@@ -23,7 +23,7 @@ fn short_buffer_is_refused_and_left() {
 
 #[test]
 fn rows_and_refusals_come_through() {
-    let mut buffer = [0xee; 32];
+    let mut buffer = [0xee; ROW_BYTES];
     assert_eq!(row(TABLE, 5, &mut buffer), Answer { number: 0, line: 0, length: 12 });
     assert_eq!(&buffer[..12], b"run=1,2,2,1\n");
     assert_eq!(row(TABLE, 2, &mut buffer), Answer { number: 0, line: 0, length: 0 });
