@@ -8,4 +8,5 @@ pub mod TextLengths
 pub mod RowNumbers
 pub mod Room
 pub mod RowRoom
+pub mod FarRows
 pub mod Unique

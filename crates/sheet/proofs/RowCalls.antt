@@ -54,7 +54,7 @@ module _ (bytes : List ℕ) (U : Table) (e : admissionOf bytes ≡ admitted U) (
   abbrev w : Walk
   w = walkOfTable (a U fine brief) asked
 
-  rules-row : Rules.rowOf bytes instant ≡ rowOn (boxOf U) (stop (boxOf U) .ticks) instant
+  pub rules-row : Rules.rowOf bytes instant ≡ rowOn (boxOf U) (stop (boxOf U) .ticks) instant
   unfolding Rules.rowOf walked
   rules-row = rw e
 

@@ -9,7 +9,7 @@ use Rattle.rules.specs.Limits as Limits
 use Rattle.rules.specs.declared.Refusal.the-variants.{PastTheStop}
 use Rattle.rules.specs.Table.{Table}
 use Rattle.rules.specs.Servers.{Box, boxOf, whole}
-use Rattle.rules.specs.Walk.{walked, rowAt}
+use Rattle.rules.specs.Walk.{rowAt}
 use Rattle.rules.specs.Reading.{Admission, admitted, refused, admissionOf}
 use Rattle.rules.specs.Answers.{says, refuses, rowOf, rowOn, rowText}
 use Rattle.rules.proofs.Tests.{by-lt, either-way}
@@ -26,7 +26,7 @@ use Rattle.rows.proofs.Shown.{row-shown}
 use Rattle.sheet.specs.Walks.{walkOfTable}
 use Rattle.sheet.proofs.TableWalks.{M, a, table-walked}
 use Rattle.sheet.proofs.Reports.{ok, short}
-use Rattle.sheet.proofs.RowCalls.{refused-row}
+use Rattle.sheet.proofs.RowCalls.{rules-row, refused-row}
 use Rattle.sheet.proofs.TextLengths.{row-short}
 use Rattle.sheet.proofs.RowNumbers.{graphs-numbered, row-small}
 use Rattle.sheet.proofs.Room.{in-time, textIn}
@@ -37,10 +37,6 @@ module _ (bytes : List ℕ) (U : Table) (e : admissionOf bytes ≡ admitted U) (
 
   abbrev row : List ℕ
   row = rowText (rowAt X (whole (X .servers)) t)
-
-  rules-row : rowOf bytes t ≡ rowOn X (stop X .ticks) t
-  unfolding rowOf walked
-  rules-row = rw e
 
   module _ (early : t < stop X .ticks) where
     few-lines : length (rowAt X (whole (X .servers)) t) ≤ Limits.processors .to
@@ -73,11 +69,11 @@ module _ (bytes : List ℕ) (U : Table) (e : admissionOf bytes ≡ admitted U) (
   of-instant s r =
       by-lt t (stop X .ticks)
       (λ l.
-      let said : says row ≡ says s = sym (rw (lt-ltb t (stop X .ticks) l) at rules-row) ∙ r in
+      let said : says row ≡ says s = sym (rw (lt-ltb t (stop X .ticks) l) at (rules-row bytes U e t)) ∙ r in
       let is : row ≡ s = ap textIn said in
       rw (sym is) (row-fits l))
       (λ l.
-      let said : refuses PastTheStop ≡ says s = sym (rw (le-ltb t (stop X .ticks) l) at rules-row) ∙ r in
+      let said : refuses PastTheStop ≡ says s = sym (rw (le-ltb t (stop X .ticks) l) at (rules-row bytes U e t)) ∙ r in
       let z : _≡_ {A = ℕ} 0 1 = cc in
       absurd (let x : ⊥ = omega arith in x))
 
