@@ -8,10 +8,9 @@ use native.Mathlib.Omega.{arith}
 use lib.Dec.{ltb, eqb}
 use lib.ListN.{getD, set}
 use borrow.Author.Tests.{lt-ltb, le-ltb, eq-eqb, ne-eqb, ltb-true, eqb-true}
-use Rattle.numbers.specs.Masks.{width, bit, without, lowest, ones}
+use Rattle.numbers.specs.Masks.{width, bit, without, lowest}
 use Rattle.numbers.proofs.Cases.{by-test}
 use Rattle.numbers.proofs.MaskLaws.{no-bit, bit-without, lowest-set, lowest-below}
-use Rattle.numbers.proofs.Counts.{ones-without}
 use Rattle.table.specs.declared.Server.{Server}
 use Rattle.table.specs.declared.State.{State}
 use Rattle.window.specs.declared.Plan.{Plan}
@@ -82,9 +81,6 @@ module _ (m p : ℕ) (some : m ≡ 0 → ⊥) (fits : m < 2 ^ width) (e : p ≡ 
 
   pub low-set : bit m p ≡ true
   low-set = ap (bit m) e ∙ lowest-set m (lowest-below m (omega arith) fits)
-
-  pub low-off : {r : ℕ} → r ≡ without m p → ones r < ones m
-  low-off {r} g = rw g (let f = ones-without m p low-set low-place in omega arith)
 
 -- the turn of the server at i
 module _ (plan : Plan) (t : ℕ) (unfinished : List ℕ) (u : State) (i : ℕ) where

@@ -90,12 +90,14 @@ pub fn all_fewer(unfinished: &[u8; Table::SERVERS], after: u32, unlinked: u8) ->
     ensures { λ r. ⌜ r ≡ Mirror.allFewer (now (unfinished .entry)) after unlinked ⌝ }
 {
     let mut m = after;
-    while m != 0 {
+    let mut left = numbers::ones(after);
+    while 0 < left {
         let p = numbers::lowest(m);
         if unlinked <= unfinished[p as usize] {
             return false;
         }
         m = numbers::without(m, p);
+        left -= 1;
     }
     true
 }

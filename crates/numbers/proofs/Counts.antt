@@ -12,7 +12,7 @@ use borrow.Author.Tests.{eq-eqb, ne-eqb, eqb-true, eqb-false}
 use Rattle.rules.specs.Lists.{one?, count, numbers}
 use Rattle.numbers.specs.Masks.{width, bit, without, ones, lowestFrom, lowest}
 use Rattle.numbers.proofs.Cases.{by-test, by-digit}
-use Rattle.numbers.proofs.MaskLaws.{bit-without}
+use Rattle.numbers.proofs.MaskLaws.{bit-without, lowest-set, lowest-below}
 
 -- the bits from k + 1 on
 next-bits : (m k : ℕ) → m / 2 ^ k / 2 ≡ m / 2 ^ suc k
@@ -84,3 +84,20 @@ module _ (m k : ℕ) (set : bit m k ≡ true) where
   pub ones-without : k < width → ones m ≡ suc (ones (without m k))
   unfolding ones
   ones-without h = count-less width 0 (omega arith) (omega arith)
+
+no-ones : ones 0 ≡ 0
+unfolding ones
+no-ones = refl
+
+-- a mask that has a bit is not 0, and one that has none is
+pub some-set : (m : ℕ) → 0 < ones m → m ≡ 0 → ⊥
+some-set m h e = omega (arith, ap ones e ∙ no-ones)
+
+pub none-set : (m : ℕ) → m < 2 ^ width → ones m ≡ 0 → m ≡ 0
+none-set m h e = by-test (eqb m 0) (λ t. eqb-true m 0 t) (λ t. absurd (has-one (eqb-false m 0 t)))
+  where
+    has-one : (m ≡ 0 → ⊥) → ⊥
+    has-one some =
+        let low = lowest-below m (omega arith) h in
+        let f = ones-without m (lowest m) (lowest-set m low) low in
+        omega arith

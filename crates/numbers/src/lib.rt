@@ -3,12 +3,10 @@
 mod masks;
 mod multiples;
 
-pub use masks::has;
 pub use masks::lowest;
 pub use masks::ones;
 pub use masks::unset_below;
 pub use masks::with;
 pub use masks::without;
 pub use multiples::Multiple;
-pub use multiples::gcd;
 pub use multiples::lcm_within;

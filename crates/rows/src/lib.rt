@@ -3,6 +3,4 @@
 mod row;
 mod run;
 
-pub use row::best_of;
 pub use row::row_of;
-pub use run::run_of;

@@ -6,11 +6,6 @@ mod refusal;
 mod report;
 mod row;
 
-pub use line::line_length;
-pub use line::put_bytes;
-pub use line::put_line;
-pub use number::digits;
-pub use number::put_number;
 pub use refusal::line_of;
 pub use refusal::number_of;
 pub use refusal::put_refusal;

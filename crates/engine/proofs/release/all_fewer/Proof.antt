@@ -1,21 +1,28 @@
--- `all_fewer` meets its contract. The loop keeps: the answer for the whole mask is that for what is left of it; each turn takes its lowest bit off.
+-- `all_fewer` meets its contract. The loop keeps: the answer for the whole mask is that for what is left of it, and `left` counts its ones;
+-- each turn takes the lowest off.
 use mathlib.Core.Path.{_≡_, refl, sym, ap, _∙_}
 use Prim.Native.Nat.{ℕ, _^_, _<_}
+use native.Mathlib.Omega.{arith}
 use borrow.Author.Needs.{needs}
 use Rattle.numbers.specs.Masks.{width, ones}
+use Rattle.numbers.proofs.Counts.{ones-without, some-set, none-set}
 use Rattle.window.specs.Releasing.{allFewer}
-use Rattle.engine.proofs.ReleaseLaws.{fewer-none, fewer-no, fewer-yes, low-place, low-set, low-off}
+use Rattle.engine.proofs.ReleaseLaws.{fewer-none, fewer-no, fewer-yes, low-place, low-set}
 use Rattle.engine.proofs.release.all_fewer.Statement.{statement}
 use Rattle.engine.proofs.release.all_fewer.Tie as tie
 
 abbrev Inv-loop : tie.InvT-loop
-Inv-loop unfinished after unlinked m₀ m = (m < 2 ^ width) × (allFewer unfinished after unlinked ≡ allFewer unfinished m unlinked)
+Inv-loop unfinished after unlinked m₀ left₀ m left =
+    (m < 2 ^ width) × (left ≡ ones m) × (allFewer unfinished after unlinked ≡ allFewer unfinished m unlinked)
 
 abbrev μ-loop : tie.MeasureT-loop
-μ-loop unfinished after unlinked m₀ m = ones m
+μ-loop unfinished after unlinked m₀ left₀ m left = left
+
+ones-requires : tie.Need-ones-requires Inv-loop μ-loop
+ones-requires c κs = search needs
 
 loop-holds : tie.Need-loop-holds Inv-loop μ-loop
-loop-holds c = (search needs, refl)
+loop-holds c = (search needs, c .ones .ensures, refl)
 
 lowest-requires : tie.Need-lowest-requires Inv-loop μ-loop
 lowest-requires c κs = search needs
@@ -24,41 +31,51 @@ cast-if1 : tie.Need-cast-if1 Inv-loop μ-loop
 cast-if1 c = search needs
 
 element-copy-out-if1 : tie.Need-element-copy-out-if1 Inv-loop μ-loop
-element-copy-out-if1 c = let x = c .before .before in low-place (x .loop .m) (c .lowest .result) (c .before .loop-test .taken) (x .loop .inv .0) (c .lowest .ensures)
+element-copy-out-if1 c =
+    let l = c .before .before .loop in
+    let some = some-set (l .m) (omega (arith, c .before .loop-test .taken, l .inv .1)) in
+    low-place (l .m) (c .lowest .result) some (l .inv .0) (c .lowest .ensures)
 
 returns : tie.Need-returns Inv-loop μ-loop
 returns c =
-    let x = c .before .before .before .before in
-    let a = x .before .args in
-    let p = c .before .before .lowest .result in
-    let some = c .before .before .before .loop-test .taken in
-    let low = c .before .before .lowest .ensures in
-    fewer-no (a .unfinished .now) (a .unlinked) (x .loop .m) p (low-place (x .loop .m) p some (x .loop .inv .0) low)
-    (low-set (x .loop .m) p some (x .loop .inv .0) low) (c .if1 .taken) ∙ sym (x .loop .inv .1)
+    let w = c .before .before in
+    let l = w .before .before .loop in
+    let a = w .before .before .before .before .args in
+    let p = w .lowest .result in
+    let some = some-set (l .m) (omega (arith, w .before .loop-test .taken, l .inv .1)) in
+    fewer-no (a .unfinished .now) (a .unlinked) (l .m) p (low-place (l .m) p some (l .inv .0) (w .lowest .ensures))
+    (low-set (l .m) p some (l .inv .0) (w .lowest .ensures)) (c .if1 .taken) ∙ sym (l .inv .2)
 
 without-requires : tie.Need-without-requires Inv-loop μ-loop
 without-requires c κs = search needs
 
+sub-left : tie.Need-sub-left Inv-loop μ-loop
+sub-left c = search needs
+
 loop-less : tie.Need-loop-less Inv-loop μ-loop
-loop-less c = let x = c .before .before .before .before .before in low-off (x .loop .m) (c .before .before .before .lowest .result) (c .before .before .before .before .loop-test .taken) (x .loop .inv .0) (c .before .before .before .lowest .ensures) (c .without .ensures)
+loop-less c = search needs
 
 loop-again : tie.Need-loop-again Inv-loop μ-loop
 loop-again c =
-    let x = c .before .before .before .before .before in
-    let a = x .before .args in
-    let m = x .loop .m in
-    let p = c .before .before .before .lowest .result in (
+    let w = c .before .before .before in
+    let l = w .before .before .loop in
+    let a = w .before .before .before .before .args in
+    let m = l .m in
+    let p = w .lowest .result in
+    let some = some-set m (omega (arith, w .before .loop-test .taken, l .inv .1)) in
+    let less = ones-without m p (low-set m p some (l .inv .0) (w .lowest .ensures)) (low-place m p some (l .inv .0) (w .lowest .ensures)) in (
       search needs,
-      x .loop .inv .1 ∙ fewer-yes (a .unfinished .now) (a .unlinked) m p (c .before .if1 .left)
+      rw (c .without .ensures) (omega (arith, l .inv .1, less)),
+      l .inv .2 ∙ fewer-yes (a .unfinished .now) (a .unlinked) m p (c .before .if1 .left)
           ∙ ap (λ (z : ℕ). allFewer (a .unfinished .now) z (a .unlinked)) (sym (c .without .ensures)),
     )
 
 returns-2 : tie.Need-returns-2 Inv-loop μ-loop
 returns-2 c =
-    let x = c .before in
-    let a = x .before .args in
-    fewer-none (a .unfinished .now) (a .unlinked)
-    ∙ sym (x .loop .inv .1 ∙ ap (λ (m : ℕ). allFewer (a .unfinished .now) m (a .unlinked)) (c .loop-test .left))
+    let l = c .before .loop in
+    let a = c .before .before .before .args in
+    let none = none-set (l .m) (l .inv .0) (omega (arith, c .loop-test .left, l .inv .1)) in
+    fewer-none (a .unfinished .now) (a .unlinked) ∙ sym (l .inv .2 ∙ ap (λ (m : ℕ). allFewer (a .unfinished .now) m (a .unlinked)) none)
 
 pub all-fewer-spec : {M : Type 1} → statement M
 all-fewer-spec =
@@ -66,12 +83,14 @@ all-fewer-spec =
     (tie.spec
     Inv-loop
     μ-loop
+    ones-requires
     loop-holds
     lowest-requires
     cast-if1
     element-copy-out-if1
     returns
     without-requires
+    sub-left
     loop-less
     loop-again
     returns-2)
