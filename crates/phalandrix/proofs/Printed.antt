@@ -2,11 +2,10 @@
 -- than the room for it.
 use mathlib.Core.Path.{_≡_, refl, sym, ap, subst}
 use mathlib.Core.Bool.{Bool, true, false}
-use mathlib.Core.List.{List, _++_}
+use mathlib.Core.List.{List}
 use Prim.Native.Nat.{ℕ, _≤_}
 use native.Mathlib.Omega.{arith}
-use lib.ListN.{length, take, drop, length-append}
-use lib.Seq.{take-append-seam}
+use lib.ListN.{length, drop, length-append}
 use lib.Dec.{T}
 use Rattle.rules.specs.declared.Answer.{Answer}
 use Rattle.rules.specs.declared.Answer.the-variants.{Text, Refused}
@@ -35,21 +34,17 @@ abbrev isText : Answer → Bool
 isText (Text n) = true
 isText (Refused r) = false
 
--- a text at the start of what there is
-at-start : (s rest after : List ℕ) (n : ℕ) → n ≡ length s → after ≡ s ++ rest → (n ≤ length after) × (take n after ≡ s)
-at-start s rest after n e f = rw (e, f) (omega (arith, length-append s rest), take-append-seam s rest)
-
 module _ (before after : List ℕ) where
-  text-left : (n : ℕ) (r : Reply) → called (Text n) after ≡ left before r → (n ≤ length after) × (take n after ≡ printed r)
+  text-left : (n : ℕ) (r : Reply) → called (Text n) after ≡ left before r → Written (printed r) before after n
   unfolding left printed
-  text-left n (says s) e =
-      at-start s (drop (length s) before) after n (ap (λ (c : Call). toldIn (c .answer)) e) (ap (λ (c : Call). c .buffer) e)
+  text-left n (says s) e = record { size = ap (λ (c : Call). toldIn (c .answer)) e; bytes = ap (λ (c : Call). c .buffer) e }
   text-left n (refuses r) e = absurd (subst T (ap (λ (c : Call). isText (c .answer)) e) tt)
 
-  refusal-left : (f : Refusal) (r : Reply) → called (Refused f) after ≡ left before r → r ≡ refuses f
+  -- a refused call leaves the buffer as it was
+  refusal-left : (f : Refusal) (r : Reply) → called (Refused f) after ≡ left before r → (r ≡ refuses f) × (after ≡ before)
   unfolding left
   refusal-left f (says s) e = absurd (subst T (ap (λ (c : Call). isText (c .answer)) (sym e)) tt)
-  refusal-left f (refuses g) e = ap (λ (c : Call). refuses (refusalIn (c .answer))) (sym e)
+  refusal-left f (refuses g) e = (ap (λ (c : Call). refuses (refusalIn (c .answer))) (sym e), ap (λ (c : Call). c .buffer) e)
 
 -- a text that fits is not refused as 10
 fits : (r : Reply) (n m : ℕ) → ((s : List ℕ) → r ≡ says s → length s ≤ m) → m ≤ n → fitted n r ≡ r
@@ -66,13 +61,15 @@ module _ (q : Question) (table before after : List ℕ) (room : longestRow ≤ l
   unfolding callOf
   answered x e = rw (reply-fits q table (length before) room) at e
 
-  pub text-printed : (n : ℕ) → called (Text n) after ≡ callOf before (replyOf q table)
-      → (n ≤ length after) × (take n after ≡ printed (replyOf q table))
+  pub text-printed : (n : ℕ) → called (Text n) after ≡ callOf before (replyOf q table) → Written (printed (replyOf q table)) before after n
   text-printed n e = text-left before after n (replyOf q table) (answered (Text n) e)
 
   pub refusal-printed : (f : Refusal) (over : List ℕ) (n m : ℕ) → called (Refused f) after ≡ callOf before (replyOf q table)
-      → n ≡ length (printed (refuses f)) → Written (printed (refuses f)) after over m → (n ≤ length over) × (take n over ≡ printed (replyOf q table))
+      → n ≡ length (printed (refuses f)) → Written (printed (refuses f)) after over m → Written (printed (replyOf q table)) before over n
   refusal-printed f over n m e size w =
-      let is : replyOf q table ≡ refuses f = refusal-left before after f (replyOf q table) (answered (Refused f) e) in
-      let text : List ℕ = printed (refuses f) in
-      rw is (at-start text (drop (length text) after) over n size (w .bytes))
+      let (is, same) = refusal-left before after f (replyOf q table) (answered (Refused f) e) in
+      rw is (record { size = size; bytes = rw same at (w .bytes) })
+
+-- what was written stands within the buffer
+pub written-within : (s before after : List ℕ) (n : ℕ) → Written s before after n → n ≤ length after
+written-within s before after n w = omega (arith, w .size, ap length (w .bytes), length-append s (drop (length s) before))

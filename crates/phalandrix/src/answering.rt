@@ -2,9 +2,10 @@
 use rules::Answer;
 ghost use mathlib.Core.Path.{_≡_};
 ghost use Prim.Native.Nat.{_≤_};
-ghost use lib.ListN.{length, take};
+ghost use lib.ListN.{length};
 ghost use Rattle.rules.specs.Answers.{printed, callOf};
 ghost use Rattle.writing.specs.Lengths.{longestRow};
+ghost use Rattle.writing.specs.Written.{Written};
 ghost use Rattle.sheet.specs.Calls.{called};
 ghost use Rattle.phalandrix.specs.Questions.{replyOf};
 
@@ -22,10 +23,10 @@ pub fn asked(q: Question, table: &[u8], text: &mut [u8]) -> Answer
     }
 }
 
-// The answer's text, or a refusal's number and line. There is room for every text, so none is refused as 10.
+// The answer's text, or a refusal's number and line, at the start of `text`. There is room for every text, so none is refused as 10.
 pub fn put_answer(q: Question, table: &[u8], text: &mut [u8]) -> usize
     requires { ⌜ longestRow ≤ length (now text) ⌝ }
-    ensures { λ n. ⌜ (n ≤ length (now (text .exit))) × (take n (now (text .exit)) ≡ printed (replyOf q (now (table .entry)))) ⌝ }
+    ensures { λ n. ⌜ Written (printed (replyOf q (now (table .entry)))) (now (text .entry)) (now (text .exit)) n ⌝ }
 {
     let a = asked(q, table, &mut *text);
     match a {

@@ -1,21 +1,20 @@
 // The program: a table on standard input; on standard output its report or, with `row T`, its row at instant T.
 mod answering;
 mod input;
-mod output;
 
 use answering::Question;
 use answering::put_answer;
 use input::Input;
 use input::read_table;
 use libc::STDERR_FILENO;
-use output::print;
+use libc::STDOUT_FILENO;
 use reading::Instant;
 use table::Table;
 
 // One byte more than a table may have: no more is read of a longer one, and that is enough to refuse it.
 const TABLE_ROOM: usize = Table::TABLE_BYTES_TO as usize + 1;
 
-// More than a system passes as one argument.
+// As long as one argument can be on x86-64 Linux, with the zero byte that ends it.
 const ARGUMENT_ROOM: usize = 131_072;
 
 fn print_usage() {
@@ -23,6 +22,13 @@ fn print_usage() {
         STDERR_FILENO,
         b"usage: phalandrix < TABLE          the report\n       phalandrix row T < TABLE    the row at instant T\n",
     );
+}
+
+// A short write is carried on; one that fails is told.
+fn print(bytes: &[u8]) {
+    if !io::write_all(STDOUT_FILENO, bytes) {
+        os::fail(b"standard output");
+    }
 }
 
 fn answer(q: Question) {

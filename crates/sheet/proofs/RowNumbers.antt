@@ -2,11 +2,12 @@
 -- number is no larger.
 use mathlib.Core.Bool.{Bool}
 use mathlib.Core.List.{List, [], _∷_, _++_, map}
-use Prim.Native.Nat.{ℕ, zero, suc, _+_, _-_, _≤_, _<_}
+use Prim.Native.Nat.{ℕ, zero, suc, _+_, _-_, _≤_}
 use native.Mathlib.Nat.{div-le-self}
 use native.Mathlib.Omega.{arith}
 use lib.Dec.{ltb, eqb}
 use lib.ListN.{length, getD}
+use Rattle.rules.specs.Limits as Limits
 use Rattle.rules.specs.Lists.{keep, joined}
 use Rattle.rules.specs.Table.{Graph, Node}
 use Rattle.rules.specs.Servers.{Server, noServer, ofNodes, ofGraphs, srv, Box}
@@ -16,6 +17,7 @@ use Rattle.rules.proofs.Tests.{either-way, dec}
 use Rattle.rules.proofs.LinkRows.{InOrder, linked-le}
 use Rattle.rules.proofs.Linking.{linkOf, links-in-order}
 use Rattle.rules.proofs.ReadWellFormed.{nodesIn}
+use Rattle.window.proofs.Relation.{lastInstant}
 use Rattle.sheet.proofs.TextLengths.{Each, SmallRun}
 
 -- each entry of a list made of others
@@ -87,14 +89,16 @@ link-most S cap need t i zero a b = absurd (let x : ⊥ = omega arith in x)
 link-most S cap need t i (suc k) a b =
     either-way (links-in-order S cap need (suc t) i k b) (λ z. omega arith) (λ z. omega (arith, z, linked-le (linkOf S cap need (suc t) i) k))
 
-module _ (X : Box) (need : ℕ → ℕ → ℕ) (t : ℕ) (early : t < 1_000_000_000) (numbered : Each (Numbered 1_000 1_000) (X .servers)) where
+module _ (X : Box) (need : ℕ → ℕ → ℕ) (t : ℕ) (early : t ≤ lastInstant)
+    (numbered : Each (Numbered (Limits.graphs .to) (Limits.allNodes .to)) (X .servers)) where
   abbrev S : List Server
   S = X .servers
 
   run-small : (x : ServerJob) → Known S t x → SmallRun (runningAt X need t x)
   unfolding runningAt
   run-small x (a, b) =
-      let n : Numbered 1_000 1_000 (srv S (x .server)) = each-at (Numbered 1_000 1_000) noServer (omega arith, omega arith) S (x .server) numbered in
+      let n : Numbered (Limits.graphs .to) (Limits.allNodes .to) (srv S (x .server)) =
+      each-at (Numbered (Limits.graphs .to) (Limits.allNodes .to)) noServer (omega arith, omega arith) S (x .server) numbered in
       let r = released-most (srv S (x .server)) t in
       record {
         graph = omega (arith, n .0);

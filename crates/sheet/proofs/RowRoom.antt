@@ -61,7 +61,7 @@ module _ (bytes : List ℕ) (U : Table) (e : admissionOf bytes ≡ admitted U) (
     row-fits : length row ≤ longestRow
     row-fits =
         let fine = ok bytes U e in
-        let small = row-small X (whole (X .servers)) t (omega (arith, in-time bytes U e)) (graphs-numbered 1_000 1_000 0 1 (U .graphs) (omega (arith, few U fine)) (omega (arith, room U fine))) in
+        let small = row-small X (whole (X .servers)) t (omega (arith, in-time bytes U e)) (graphs-numbered (Limits.graphs .to) (Limits.allNodes .to) 0 1 (U .graphs) (omega (arith, few U fine)) (omega (arith, room U fine))) in
         omega (arith, few-lines, row-short (rowAt X (whole (X .servers)) t) small)
 
   of-instant : (s : List ℕ) → rowOf bytes t ≡ says s → length s ≤ longestRow

@@ -1,6 +1,6 @@
--- How long the text of an answer is at most, where its numbers have at most ten digits.
+-- How long the text of an answer is at most, where its numbers have at most `mostDigits` digits.
 use mathlib.Core.List.{List, [], _∷_, _++_}
-use Prim.Native.Nat.{ℕ, suc, _+_, _*_, _≤_, _<_}
+use Prim.Native.Nat.{ℕ, suc, _+_, _-_, _*_, _^_, _≤_, _<_}
 use Prim.Native.String.{String}
 use native.Mathlib.Omega.{arith}
 use lib.ListN.{length, getD, length-append}
@@ -8,20 +8,20 @@ use Rattle.rules.specs.Limits as Limits
 use Rattle.rules.specs.Bytes.{bytes, equals, comma, lineFeed, decimal}
 use Rattle.rules.specs.Walk.{Running}
 use Rattle.rules.specs.Answers.{answerLine, responseLines, reportText, rowText}
-use Rattle.writing.specs.Lengths.{longestLine, longestRun, longestReport}
+use Rattle.writing.specs.Lengths.{mostDigits, longestLine, longestRun, longestReport}
 use Rattle.writing.proofs.Counting.{digits-most}
 
 abbrev pub Small : ℕ → Type 0
-Small v = v < 10_000_000_000
+Small v = v < 10 ^ mostDigits
 
-line-short : (name : String) (v : ℕ) → Small v → length (answerLine name v) ≤ length (bytes name) + 12
+line-short : (name : String) (v : ℕ) → Small v → length (answerLine name v) ≤ longestLine (bytes name)
 unfolding answerLine
 line-short name v h =
     omega (
       arith,
       length-append (bytes name) (equals ∷ decimal v ++ (lineFeed ∷ [])),
       length-append (decimal v) (lineFeed ∷ []),
-      digits-most 9 v h,
+      digits-most (mostDigits - 1) v h,
     )
 
 responses-short : (fs : List ℕ) → ((g : ℕ) → g < length fs → Small (getD fs g 0)) → length (responseLines fs) ≤ length fs * longestLine (bytes "response")
@@ -78,9 +78,9 @@ row-short (x ∷ xs) (s, h) =
       length-append (decimal (x .node)) (comma ∷ c),
       length-append (decimal (x .serverJob)) (comma ∷ d),
       length-append (decimal (x .invocation)) (lineFeed ∷ rowText xs),
-      digits-most 9 (x .graph) (s .graph),
-      digits-most 9 (x .node) (s .node),
-      digits-most 9 (x .serverJob) (s .serverJob),
-      digits-most 9 (x .invocation) (s .invocation),
+      digits-most (mostDigits - 1) (x .graph) (s .graph),
+      digits-most (mostDigits - 1) (x .node) (s .node),
+      digits-most (mostDigits - 1) (x .serverJob) (s .serverJob),
+      digits-most (mostDigits - 1) (x .invocation) (s .invocation),
       row-short xs h,
     )

@@ -1,6 +1,7 @@
 -- `answer` meets its contract: no more bytes are passed on than were read, and none but the answer's are printed.
 use mathlib.Core.Path.{sym}
 use lib.Seq.{length-take-le}
+use Rattle.phalandrix.proofs.Printed.{written-within}
 use borrow.Author.Needs.{needs}
 use Rattle.phalandrix.proofs.answer.Statement.{statement}
 use Rattle.phalandrix.proofs.answer.Tie as tie
@@ -40,10 +41,10 @@ put-answer-requires : tie.Need-put-answer-requires
 put-answer-requires c κs = search needs
 
 array-share-prefix-text : tie.Need-array-share-prefix-text
-array-share-prefix-text c = search needs
+array-share-prefix-text c = written-within _ _ _ _ (c .before .put-answer .ensures)
 
 slice-aggregate-print : tie.Need-slice-aggregate-print
-slice-aggregate-print c = sym (length-take-le _ _ (c .before .before .put-answer .ensures .0))
+slice-aggregate-print c = sym (length-take-le _ _ (written-within _ _ _ _ (c .before .before .put-answer .ensures)))
 
 print-requires : tie.Need-print-requires
 print-requires c κs = search needs

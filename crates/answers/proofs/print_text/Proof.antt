@@ -3,8 +3,8 @@ use mathlib.Core.Path.{sym}
 use lib.Seq.{length-take-le}
 use denote.Ref.{now}
 use borrow.Author.Needs.{needs}
-use Rattle.answers.proofs.calls.print_text.Statement.{statement}
-use Rattle.answers.proofs.calls.print_text.Tie as tie
+use Rattle.answers.proofs.print_text.Statement.{statement}
+use Rattle.answers.proofs.print_text.Tie as tie
 
 slice-aggregate-write-all : tie.Need-slice-aggregate-write-all
 slice-aggregate-write-all c =

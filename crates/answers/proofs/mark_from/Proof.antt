@@ -1,9 +1,9 @@
--- `line_feed_from` meets its contract.
+-- `mark_from` meets its contract.
 use Prim.Native.Nat.{_-_, _≤_}
 use lib.ListN.{length}
 use borrow.Author.Needs.{needs}
-use Rattle.answers.proofs.cases.line_feed_from.Statement.{statement}
-use Rattle.answers.proofs.cases.line_feed_from.Tie as tie
+use Rattle.answers.proofs.mark_from.Statement.{statement}
+use Rattle.answers.proofs.mark_from.Tie as tie
 
 abbrev Inv-loop : tie.InvT-loop
 Inv-loop s from p₀ p = (from ≤ p) × (p ≤ length s)
@@ -14,8 +14,11 @@ abbrev μ-loop : tie.MeasureT-loop
 loop-holds : tie.Need-loop-holds Inv-loop μ-loop
 loop-holds c = search needs
 
-shared-slice-read-if1 : tie.Need-shared-slice-read-if1 Inv-loop μ-loop
-shared-slice-read-if1 c = search needs
+shared-slice-read-is-mark : tie.Need-shared-slice-read-is-mark Inv-loop μ-loop
+shared-slice-read-is-mark c = search needs
+
+is-mark-requires : tie.Need-is-mark-requires Inv-loop μ-loop
+is-mark-requires c κs = search needs
 
 returns : tie.Need-returns Inv-loop μ-loop
 returns c = search needs
@@ -32,14 +35,15 @@ loop-again c = search needs
 returns-2 : tie.Need-returns-2 Inv-loop μ-loop
 returns-2 c = search needs
 
-pub line-feed-from-spec : {M : Type 1} → statement M
-line-feed-from-spec =
+pub mark-from-spec : {M : Type 1} → statement M
+mark-from-spec =
     tie.close
     (tie.spec
     Inv-loop
     μ-loop
     loop-holds
-    shared-slice-read-if1
+    shared-slice-read-is-mark
+    is-mark-requires
     returns
     add-p
     loop-less

@@ -2,8 +2,8 @@
 use Prim.Native.Nat.{_-_}
 use lib.ListN.{length}
 use borrow.Author.Needs.{needs}
-use Rattle.answers.proofs.readings.print_cuts.Statement.{statement}
-use Rattle.answers.proofs.readings.print_cuts.Tie as tie
+use Rattle.answers.proofs.print_cuts.Statement.{statement}
+use Rattle.answers.proofs.print_cuts.Tie as tie
 
 abbrev Inv-loop : tie.InvT-loop
 Inv-loop label table n₀ n = Unit {0}

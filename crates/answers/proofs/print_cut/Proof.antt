@@ -5,8 +5,8 @@ use native.Mathlib.Omega.{arith}
 use lib.Seq.{length-take-le}
 use denote.Ref.{now}
 use borrow.Author.Needs.{needs}
-use Rattle.answers.proofs.readings.print_cut.Statement.{statement}
-use Rattle.answers.proofs.readings.print_cut.Tie as tie
+use Rattle.answers.proofs.print_cut.Statement.{statement}
+use Rattle.answers.proofs.print_cut.Tie as tie
 
 write-all-requires : tie.Need-write-all-requires
 write-all-requires c κs = search needs

@@ -1,8 +1,8 @@
 -- `print_rows` ends: its instants grow.
 use Prim.Native.Nat.{_-_}
 use borrow.Author.Needs.{needs}
-use Rattle.answers.proofs.calls.print_rows.Statement.{statement}
-use Rattle.answers.proofs.calls.print_rows.Tie as tie
+use Rattle.answers.proofs.print_rows.Statement.{statement}
+use Rattle.answers.proofs.print_rows.Tie as tie
 
 abbrev Inv-loop : tie.InvT-loop
 Inv-loop label table t₀ t = Unit {0}
