@@ -1,17 +1,15 @@
--- What an engine that keeps windows goes by, beside InTurn.antt: the release of a server job, from how many were released after it and the
--- phase; and that the next job of a node is due exactly when each predecessor has fewer unfinished jobs than the node has unlinked ones.
--- The latter for needs that do not fall with the number, as whole budgets do not.
-use mathlib.Core.Path.{_≡_, sym, ap, _∙_}
-use mathlib.Core.Bool.{Bool, cond}
+-- What an engine that keeps windows goes by, beside InTurn.antt: the next job of a node is due exactly when each predecessor has fewer
+-- unfinished jobs than the node has unlinked ones. For needs that do not fall with the number, as whole budgets do not.
+use mathlib.Core.Path.{_≡_}
+use mathlib.Core.Bool.{Bool}
 use mathlib.Core.List.{List, [], _∷_}
-use Prim.Native.Nat.{ℕ, _+_, _*_, _-_, _/_, _%_, _≤_, _<_}
-use native.Mathlib.Nat.{add-mul, div-add-mod'}
+use Prim.Native.Nat.{ℕ, _+_, _-_, _≤_, _<_}
 use native.Mathlib.Omega.{arith}
 use lib.Dec.{T, ltb, eqb, ltb→lt, lt→ltb, eqb→eq}
-use borrow.Author.Tests.{le-leb, le-ltb}
+use borrow.Author.Tests.{le-leb}
 use Rattle.rules.specs.Lists.{all?}
 use Rattle.rules.specs.Servers.{Server, srv}
-use Rattle.rules.specs.ServerJobs.{releaseOf, released, releasedBefore, used}
+use Rattle.rules.specs.ServerJobs.{released, releasedBefore, used}
 use Rattle.rules.specs.Links.{dueAfter, due, links, dueBy, finishedBy}
 use Rattle.rules.specs.State.{NodeState, finishedCount, nodeState}
 use Rattle.rules.proofs.Tests.{bool-ext, all-under}
@@ -19,19 +17,6 @@ use Rattle.rules.proofs.Counts.{first-pass, pass-first}
 use Rattle.rules.proofs.LinkRows.{linked-le}
 use Rattle.rules.proofs.Linking.{linkOf, linkedCount, linked-count}
 use Rattle.rules.proofs.Finishing.{finished-is, finished-number, finished-in-order}
-
--- from the release of server job k to t there are the periods of those released after it, and the phase
-pub release-to-now : (s : Server) (t k : ℕ) → s .offset ≤ t → 1 ≤ k → k ≤ released s t
-    → releaseOf s k + (released s t - k) * s .period + (t - s .offset) % s .period ≡ t
-unfolding released releaseOf
-release-to-now s t k o a b =
-    let q = (t - s .offset) / s .period in
-    let r : cond (ltb t (s .offset)) 0 (q + 1) ≡ q + 1 = rw (le-ltb t (s .offset) o) in
-    let b′ : k ≤ q + 1 = rw r at b in
-    let e : (k - 1) + (q + 1 - k) ≡ q = omega arith in
-    let m : (k - 1) * s .period + (q + 1 - k) * s .period ≡ q * s .period =
-    sym (add-mul (k - 1) (q + 1 - k) (s .period)) ∙ ap (λ (x : ℕ). x * s .period) e in
-    rw r (omega (arith, m, div-add-mod' (t - s .offset) (s .period)))
 
 module _ (S : List Server) (cap : ℕ → ℕ) (need : ℕ → ℕ → ℕ) where
   abbrev pub nodeAt : ℕ → ℕ → NodeState

@@ -25,7 +25,7 @@ use Rattle.window.specs.declared.Plan.{Plan}
 use Rattle.window.specs.Entries.{places, lastKey, slotOf, serverAt, countAt, firstAt, stepAt}
 use Rattle.window.specs.Ticking.{running}
 use Rattle.window.proofs.Relation.{lastInstant, Fits, Slot, Released}
-use Rattle.window.proofs.Choice.{below, below-grows, least, entry-is}
+use Rattle.window.proofs.Choice.{below, below-grows, entry-is}
 use Rattle.window.proofs.Keys.{keyOf, readySlots, keysIn, key-small, rank-is, Standing, standing}
 use Rattle.window.proofs.Distinct.{below-and-having, keys-once, key-there}
 
@@ -132,7 +132,6 @@ module _ (X : Box) (plan : Plan) (t : ℕ) (a : State) (fits : Fits X plan) (rel
 
   -- what the key of a ready server job says
   pub record Shown (key : ℕ) (x : ServerJob) : Type 0 where
-    pub is-key : keyOf S x ≡ key
     pub inside : placeOf X plan a key < length S
     pub slot : slotNumber X plan a key < readySlots plan a (placeOf X plan a key)
     pub number : numberOf X plan a key ≡ c (placeOf X plan a key) + 1 + slotNumber X plan a key
@@ -142,7 +141,6 @@ module _ (X : Box) (plan : Plan) (t : ℕ) (a : State) (fits : Fits X plan) (rel
   unfolding releasedBefore runningAt
   shown x r =
       record {
-        is-key = refl;
         inside = rw place inside;
         slot = rw (place, slot) (omega (arith, at .after, at .within));
         number = rw (place, number, slot) split;
@@ -287,13 +285,6 @@ module _ (X : Box) (plan : Plan) (t : ℕ) (a : State) (fits : Fits X plan) (rel
       (λ z.
       let (x, s, k) = z .1 in
       rw (k, lt-ltb (entry r) lastKey (z .0), s .line))
-
-  -- and once one is the largest key, so are those after it
-  pub entries-rise : (q r : ℕ) → q ≤ r → r < plan .processors → (entry q ≤ entry r) × (entry r ≤ lastKey)
-  unfolding running
-  entries-rise q r h l =
-      let all = least keys (plan .processors) (fits .processors-some) (fits .processors-most) (length keys) (le-refl (length keys)) in
-      (all .rises q r h l, all .low r l)
 
   -- the row: for each entry in order its line, or none
   pub row-is : rowAt X (whole S) t ≡ joined (λ (r : ℕ). linesOf X plan a (getD (running plan a) r 0)) 0 (plan .processors)
