@@ -1,8 +1,20 @@
-/* Phalandrix: the response figures of a table of periodic graphs, and the row of its schedule at an instant.
+/* Phalandrix: how old the result of each periodic graph of a table can be, and which server jobs
+ * run in a tick. docs/TABLE.md says what a table and its answers mean.
  *
- * Both calls read `table_length` bytes from `table` and write only the text of their answer, from the start of `buffer`. Bytes of the
- * buffer after the text are left as they were, and so is the whole buffer where a call is refused. The two ranges must not overlap.
- * A pointer may be anything, NULL too, where its length is 0. The calls keep nothing, and may be made from several threads at once.
+ * Each call reads `table_length` bytes from `table` and writes only the text of its answer, from
+ * the start of `buffer`. Bytes of the buffer after the text are left as they were, and so is the
+ * whole buffer where a call is refused. The two ranges must not overlap. A pointer may be anything,
+ * NULL too, where its length is 0. The calls keep nothing, and may be made from several threads at
+ * once.
+ *
+ * Platform: x86-64 Linux. `./build-library` makes target/staticlib/libphalandrix.a, which needs
+ * memcpy and memset and nothing else.
+ *
+ * Time: a call walks at most 1,290,000 ticks. The longest walks took 0.2 to 0.4 seconds where they
+ * were measured (docs/BENCHMARK.md); that is not proved. Stack: PHALANDRIX_STACK_BYTES, below.
+ *
+ * This file is the home of the version, of the sentences for people, and of the sizes below: ./run
+ * and the Rust package read them from here.
  */
 #ifndef PHALANDRIX_H
 #define PHALANDRIX_H
@@ -14,40 +26,69 @@
 extern "C" {
 #endif
 
-/* number 0, line 0 and the length of the text; or the number of a refusal, its line (0 where it has none) and length 0. */
+#define PHALANDRIX_VERSION "0.1.0"
+
+/* number 0, line 0 and the length of the text; or the number of a refusal, its line (0 where it has
+ * none) and length 0. */
 typedef struct phalandrix_answer {
     uint32_t number;
     uint32_t line;
     size_t length;
 } phalandrix_answer;
 
-/* The numbers of the refusals. */
+/* Every refusal: its number, its name (PHALANDRIX_TOO_LONG and so on) and what it tells people. A
+ * line of this list is one line of this file, since ./run and the Rust package read it too. */
+#define PHALANDRIX_REFUSALS(REFUSAL) \
+    REFUSAL(1, TOO_LONG, "the table has more than 4,096 bytes") \
+    REFUSAL(2, MISSPELLED, "the line is missing, is not spelled as the key and value due there, or is one too many") \
+    REFUSAL(3, OUTSIDE_LIMITS, "a number is outside its limits, or `nodes` takes the nodes of all graphs past 32") \
+    REFUSAL(4, PREDECESSORS, "an `after` list breaks its rules, or a node other than the last has no successor") \
+    REFUSAL(5, LONG_HYPERPERIOD, "the hyperperiod, the least common multiple of all periods, is above 20,000") \
+    REFUSAL(6, NOT_LOADABLE, "the budgets ask for more ticks in a hyperperiod than the processors have") \
+    REFUSAL(7, BACKLOG, "a server has more than 16 pending server jobs, or a graph more than 64 unfinished invocations") \
+    REFUSAL(8, UNSETTLED, "the schedule does not repeat within `rounds` hyperperiods") \
+    REFUSAL(9, PAST_THE_STOP, "the instant is at or past the instant where the walk stops") \
+    REFUSAL(10, SHORT_BUFFER, "the text of the answer is longer than the buffer")
+
+/* The numbers: PHALANDRIX_ANSWERED, and one for each refusal above. */
 enum {
-    PHALANDRIX_ANSWERED = 0,
-    PHALANDRIX_TOO_LONG = 1,            /* more than 4,096 bytes */
-    PHALANDRIX_MISSPELLED = 2,          /* the line is not the expected key with a well-spelled value; absent; or past the last */
-    PHALANDRIX_OUTSIDE_LIMITS = 3,      /* a number outside its limits, or too many nodes in all */
-    PHALANDRIX_PREDECESSORS = 4,        /* an `after` list breaks the rules, or a node has no successor */
-    PHALANDRIX_LONG_HYPERPERIOD = 5,
-    PHALANDRIX_NOT_LOADABLE = 6,
-    PHALANDRIX_BACKLOG = 7,             /* report only */
-    PHALANDRIX_UNSETTLED = 8,           /* report only */
-    PHALANDRIX_PAST_THE_STOP = 9,       /* row only: the instant is at or past the stop of the walk */
-    PHALANDRIX_SHORT_BUFFER = 10        /* the text is longer than the buffer */
+#define PHALANDRIX_NUMBERED(number, name, sentence) PHALANDRIX_##name = number,
+    PHALANDRIX_REFUSALS(PHALANDRIX_NUMBERED)
+#undef PHALANDRIX_NUMBERED
+    PHALANDRIX_ANSWERED = 0
 };
 
-/* A buffer of so many bytes holds every report, or every row: with it a call is never refused as PHALANDRIX_SHORT_BUFFER. */
+/* What a number tells people; it never returns NULL. */
+static inline const char *phalandrix_sentence(uint32_t number)
+{
+    switch (number) {
+    case PHALANDRIX_ANSWERED: return "answered";
+#define PHALANDRIX_SAID(number, name, sentence) \
+    case number: return sentence;
+    PHALANDRIX_REFUSALS(PHALANDRIX_SAID)
+#undef PHALANDRIX_SAID
+    default: return "no number of this version";
+    }
+}
+
 enum {
+    /* A report has at most so many bytes, and a row: with a buffer that holds them, a call is never
+     * refused as PHALANDRIX_SHORT_BUFFER. Both are proved. */
     PHALANDRIX_REPORT_BYTES = 212,
-    PHALANDRIX_ROW_BYTES = 384
+    PHALANDRIX_ROW_BYTES = 384,
+    /* A call needs at most so many bytes of stack: measured and rounded up, and held by
+     * tests/stack.c; not proved. */
+    PHALANDRIX_STACK_BYTES = 36864
 };
 
 /* The report: `answer=0`, `round=`, `ticks=` and one `response=` per graph, a line each. */
-phalandrix_answer phalandrix_report(const uint8_t *table, size_t table_length, uint8_t *buffer, size_t buffer_length);
+phalandrix_answer phalandrix_report(const uint8_t *table, size_t table_length,
+                                    uint8_t *buffer, size_t buffer_length);
 
-/* The row at an instant: one line `run=graph,node,server job,invocation` per running server job, in priority order; invocation 0 for one
- * that is not linked; no text for an idle tick. */
-phalandrix_answer phalandrix_row(const uint8_t *table, size_t table_length, uint64_t instant, uint8_t *buffer, size_t buffer_length);
+/* The row at an instant: one line `run=graph,node,server job,invocation` per running server job, in
+ * priority order; invocation 0 for one that is not linked; no text for an idle tick. */
+phalandrix_answer phalandrix_row(const uint8_t *table, size_t table_length, uint64_t instant,
+                                 uint8_t *buffer, size_t buffer_length);
 
 #ifdef __cplusplus
 }

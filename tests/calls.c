@@ -1,4 +1,5 @@
-/* Both calls from C, on document 01's 12-line table: the text, the answer, and every byte of the buffer around the text. */
+/* Both calls from C, on document 01's 12-line table: the text, the answer, and every byte of the
+ * buffer around the text. And the sentences of the refusals, by their names and numbers. */
 #include "phalandrix.h"
 
 #include <stdio.h>
@@ -15,15 +16,27 @@ enum { ROOM = PHALANDRIX_ROW_BYTES, UNTOUCHED = 0xA5 };
 static int failures;
 
 /* One call's answer and buffer beside what they should be: the text, then untouched bytes. */
-static void expect(const char *name, phalandrix_answer a, const uint8_t *buffer, uint32_t number, uint32_t line, const char *text)
+static void expect(const char *name, phalandrix_answer a, const uint8_t *buffer,
+                   uint32_t number, uint32_t line, const char *text)
 {
     size_t length = strlen(text);
-    int fine = a.number == number && a.line == line && a.length == length && memcmp(buffer, text, length) == 0;
+    int fine = a.number == number && a.line == line && a.length == length
+        && memcmp(buffer, text, length) == 0;
 
     for (size_t i = length; i < ROOM; i++)
         fine = fine && buffer[i] == UNTOUCHED;
     if (!fine) {
-        printf("%s: number %u, line %u, length %zu\n", name, (unsigned)a.number, (unsigned)a.line, a.length);
+        printf("%s: number %u (%s), line %u, length %zu\n", name, (unsigned)a.number,
+               phalandrix_sentence(a.number), (unsigned)a.line, a.length);
+        failures++;
+    }
+}
+
+/* A number's sentence begins with these words. */
+static void expect_sentence(uint32_t number, const char *words)
+{
+    if (strncmp(phalandrix_sentence(number), words, strlen(words)) != 0) {
+        printf("the sentence of %u is '%s'\n", (unsigned)number, phalandrix_sentence(number));
         failures++;
     }
 }
@@ -49,12 +62,18 @@ int main(void)
     expect("report that just fits", report_in(b, table, n), b, PHALANDRIX_ANSWERED, 0, report);
     expect("report one byte too long", report_in(b, table, n - 1), b, PHALANDRIX_SHORT_BUFFER, 0, "");
     expect("report of no bytes", report_in(b, "", ROOM), b, PHALANDRIX_MISSPELLED, 1, "");
-    expect("report past a limit", report_in(b, "processors=1\nrounds=0\n", ROOM), b, PHALANDRIX_OUTSIDE_LIMITS, 2, "");
+    expect("report past a limit", report_in(b, "processors=1\nrounds=0\n", ROOM), b,
+           PHALANDRIX_OUTSIDE_LIMITS, 2, "");
     expect("row at 4", row_in(b, 4, ROOM), b, PHALANDRIX_ANSWERED, 0, row);
     expect("row at the stop", row_in(b, 8, ROOM), b, PHALANDRIX_PAST_THE_STOP, 0, "");
     expect("row past 2^32", row_in(b, UINT64_MAX, ROOM), b, PHALANDRIX_PAST_THE_STOP, 0, "");
     expect("row in no buffer", row_in(b, 4, 0), b, PHALANDRIX_SHORT_BUFFER, 0, "");
-    expect("nothing at all", (memset(b, UNTOUCHED, ROOM), phalandrix_report(NULL, 0, NULL, 0)), b, PHALANDRIX_MISSPELLED, 1, "");
+    memset(b, UNTOUCHED, ROOM);
+    expect("nothing at all", phalandrix_report(NULL, 0, NULL, 0), b, PHALANDRIX_MISSPELLED, 1, "");
+    expect_sentence(PHALANDRIX_ANSWERED, "answered");
+    expect_sentence(PHALANDRIX_TOO_LONG, "the table has more than 4,096 bytes");
+    expect_sentence(10, "the text of the answer is longer than the buffer");
+    expect_sentence(UINT32_MAX, "no number");
     if (failures == 0)
         printf("both calls from C: as they should be\n");
     return failures != 0;

@@ -1,49 +1,38 @@
-//! The proved library's two calls, made safe.
+//! How old the result of each periodic graph of a table can be, by the proved library.
 //!
-//! The only `unsafe` here is the two calls themselves. Each passes pointer and
-//! length of a slice, which the slice keeps alive and, for the buffer, alone
-//! for the whole call; the library reads no byte outside the table and writes
-//! none outside the buffer.
-#![deny(unsafe_op_in_unsafe_fn, clippy::undocumented_unsafe_blocks)]
+//! [`report_of`] and [`row_at`] give an answer or a [`Refusal`]; [`report`] and [`row`] are the plain
+//! calls below them, with a buffer lent by the caller. docs/TABLE.md in the repository says what a table
+//! and its answers mean.
+//!
+//! ```
+//! let table = b"processors=1\nrounds=64\ngraphs=1\nperiod=4\noffset=0\nnodes=2\n\
+//!     budget=1\nlevel=1\nafter=none\nbudget=1\nlevel=1\nafter=1\n";
+//! let report = phalandrix::report_of(table)?;
+//! assert_eq!(report.responses().collect::<Vec<u32>>(), [6]);
+//! assert_eq!(report.to_string(), "answer=0\nround=2\nticks=8\nresponse=6\n");
+//!
+//! let row = phalandrix::row_at(table, 5)?;
+//! let run = row.runs().next().expect("one server job runs");
+//! assert_eq!((run.graph, run.node, run.server_job, run.invocation), (1, 2, 2, Some(1)));
+//!
+//! let refusal = phalandrix::report_of(b"processors=9\n").unwrap_err();
+//! assert_eq!((refusal.reason, refusal.line), (phalandrix::Reason::OutsideLimits, 1));
+//! # Ok::<(), phalandrix::Refusal>(())
+//! ```
+//!
+//! - `calls`: the plain calls;
+//! - `refusal`: the refusals, with the list made from the C header;
+//! - `reports`, `rows`: the answers as values, in a `text` of their own.
+#![no_std]
+#![deny(unsafe_op_in_unsafe_fn, clippy::undocumented_unsafe_blocks, missing_docs)]
 
-/// A buffer of so many bytes holds every report: with it a report is never
-/// refused as 10.
-pub const REPORT_BYTES: usize = 212;
+mod calls;
+mod refusal;
+mod reports;
+mod rows;
+mod text;
 
-/// A buffer of so many bytes holds every row.
-pub const ROW_BYTES: usize = 384;
-
-/// What a call returns: number 0, line 0 and the length of the text, or the
-/// number and line of a refusal.
-#[repr(C)]
-#[derive(Clone, Copy, Debug, PartialEq, Eq)]
-pub struct Answer {
-    pub number: u32,
-    pub line: u32,
-    pub length: usize,
-}
-
-unsafe extern "C" {
-    fn phalandrix_report(table: *const u8, table_len: usize, buffer: *mut u8, buffer_len: usize) -> Answer;
-    fn phalandrix_row(
-        table: *const u8,
-        table_len: usize,
-        instant: u64,
-        buffer: *mut u8,
-        buffer_len: usize,
-    ) -> Answer;
-}
-
-/// The report of a table, written at the beginning of the lent buffer.
-pub fn report(table: &[u8], buffer: &mut [u8]) -> Answer {
-    // SAFETY: both pointers come with the length of their own slice, the
-    // slices live through the call and cannot overlap, and the library keeps
-    // neither pointer.
-    unsafe { phalandrix_report(table.as_ptr(), table.len(), buffer.as_mut_ptr(), buffer.len()) }
-}
-
-/// The row of a table at an instant, written at the beginning of the buffer.
-pub fn row(table: &[u8], instant: u64, buffer: &mut [u8]) -> Answer {
-    // SAFETY: as in `report`; the instant is a plain number.
-    unsafe { phalandrix_row(table.as_ptr(), table.len(), instant, buffer.as_mut_ptr(), buffer.len()) }
-}
+pub use calls::{Answer, report, row};
+pub use refusal::{REPORT_BYTES, ROW_BYTES, Reason, Refusal, STACK_BYTES, VERSION};
+pub use reports::{Report, report_of};
+pub use rows::{Row, Run, row_at};
