@@ -1,23 +1,16 @@
 //! The two calls with a lent buffer.
 
-use crate::Pace;
+use crate::answer::Answer;
 use crate::engine::Engine;
 use crate::table::Table;
 use crate::walk::{End, walk};
 use crate::writer::{self, Text};
 
-/// What a call returns; number 0 is an answer, all else a refusal.
+/// The length of a step.
 #[derive(Clone, Copy, Debug, PartialEq, Eq)]
-pub struct Answer {
-    pub number: u32,
-    pub line: u32,
-    pub length: usize,
-}
-
-impl Answer {
-    pub(crate) fn refusal(number: u32, line: u32) -> Answer {
-        Answer { number, line, length: 0 }
-    }
+pub enum Pace {
+    Tick,
+    Event,
 }
 
 pub fn report(pace: Pace, table: &[u8], buffer: &mut [u8]) -> Answer {

@@ -5,6 +5,7 @@
 //! share every part but the length of a step, so that the ratio between them
 //! measures just that.
 //!
+//! - `answer`: what a call returns;
 //! - `table`, `reader`: the table in fixed arrays, read from bytes;
 //! - `window`: one server's pending server jobs;
 //! - `chosen`: the server jobs that run;
@@ -14,6 +15,7 @@
 //! - `call`: the two calls with a lent buffer.
 #![forbid(unsafe_code)]
 
+mod answer;
 mod call;
 mod chosen;
 mod engine;
@@ -23,11 +25,5 @@ mod walk;
 mod window;
 mod writer;
 
-pub use call::{Answer, report, row};
-
-/// The length of a step.
-#[derive(Clone, Copy, Debug, PartialEq, Eq)]
-pub enum Pace {
-    Tick,
-    Event,
-}
+pub use answer::Answer;
+pub use call::{Pace, report, row};

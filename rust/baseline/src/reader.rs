@@ -1,6 +1,6 @@
 //! Reads a table from the caller's bytes, one line after another.
 
-use crate::call::Answer;
+use crate::answer::Answer;
 use crate::table::{Graph, Node, Table};
 
 /// A key, and the least and the largest number it takes.

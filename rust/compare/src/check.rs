@@ -2,6 +2,7 @@
 
 use crate::call::{Difference, Question, difference};
 use crate::library::Library;
+use crate::outcomes::REFUSALS;
 use generator::Rng;
 use simulator::Reply;
 use simulator::question::Answered;
@@ -24,21 +25,21 @@ impl Effort {
     pub const SHRINKING: Effort = Effort { ticks: 100_000, first_instants: 300 };
 }
 
-/// What came of a table: how many calls, and the first difference.
+/// What came of a table: how many calls of each number, and the first difference.
 pub struct Checked {
     pub report: Reply,
-    pub calls: u64,
+    pub calls: [u64; REFUSALS + 1],
     pub difference: Option<Difference>,
 }
 
 pub fn check(library: &dyn Library, table: &[u8], effort: Effort, rng: &mut Rng) -> Checked {
     let answered = Answered::new(table);
     let report = answered.report();
-    let mut calls = 0;
+    let mut calls = [0; REFUSALS + 1];
     let mut first = None;
     let mut ask = |question, reply: &Reply, length| {
         if first.is_none() {
-            calls += 1;
+            calls[number(reply, length)] += 1;
             first = difference(library, table, question, reply, length);
         }
     };
@@ -54,6 +55,11 @@ pub fn check(library: &dyn Library, table: &[u8], effort: Effort, rng: &mut Rng)
         }
     }
     Checked { report, calls, difference: first }
+}
+
+/// The number that a call with this buffer is answered with.
+fn number(reply: &Reply, buffer_length: usize) -> usize {
+    simulator::lend(reply, &mut vec![0; buffer_length]).number as usize
 }
 
 /// Every length from 0 to past the text's, or those next to it and some.

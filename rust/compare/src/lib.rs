@@ -4,7 +4,8 @@
 //! - `call`: one call, its answer and every byte around it;
 //! - `check`: all the calls made on one table;
 //! - `shrink`, `loose`: a smaller table with the same difference;
-//! - `run`: the tables of a range of seeds, and the summary;
+//! - `run`: the tables of a range of seeds, on several threads;
+//! - `outcomes`: what came up, and what never did;
 //! - `options`: the command line.
 #![forbid(unsafe_code)]
 
@@ -13,5 +14,6 @@ pub mod check;
 pub mod library;
 pub mod loose;
 pub mod options;
+pub mod outcomes;
 pub mod run;
 pub mod shrink;

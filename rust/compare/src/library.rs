@@ -3,8 +3,8 @@
 use baseline::Pace;
 use simulator::Answer;
 
-/// The two calls with a lent buffer.
-pub trait Library {
+/// The two calls with a lent buffer; several threads call one library.
+pub trait Library: Sync {
     fn name(&self) -> &str;
     fn report(&self, table: &[u8], buffer: &mut [u8]) -> Answer;
     fn row(&self, table: &[u8], instant: u64, buffer: &mut [u8]) -> Answer;

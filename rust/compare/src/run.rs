@@ -1,28 +1,19 @@
-//! The tables of a range of seeds, one after another, and the summary.
+//! The tables of a range of seeds, shared among threads.
 
 use crate::call::Difference;
 use crate::check::{Checked, Effort, check};
 use crate::library::Library;
 use crate::options::Options;
+use crate::outcomes::Outcomes;
 use crate::shrink::shrink;
 use generator::{Rng, make};
 use simulator::question::judge;
 use simulator::walk::walk;
 use simulator::{Reply, demand3};
 use std::fmt;
-
-/// What a run saw.
-#[derive(Clone, Debug, Default, PartialEq, Eq)]
-pub struct Summary {
-    pub tables: u64,
-    pub calls: u64,
-    /// Reports by number: 0 for an answer, else the refusal.
-    pub reports: [u64; 9],
-    /// Tables, invocations and figures looked at for demand 3.
-    pub forced: u64,
-    pub invocations: u64,
-    pub attained: u64,
-}
+use std::panic::resume_unwind;
+use std::sync::atomic::{AtomicU64, Ordering};
+use std::thread;
 
 /// Why a run ended early.
 #[derive(Clone, Debug, PartialEq, Eq)]
@@ -34,23 +25,56 @@ pub enum Fault {
 /// Hyperperiods past the stop over which demand 3 is checked.
 const PAST: u32 = 3;
 
-/// Checks the tables of all seeds; stops at the first fault.
-pub fn run(library: &dyn Library, options: &Options) -> Result<Summary, Fault> {
-    let mut summary = Summary::default();
-    for seed in options.seed..options.seed.saturating_add(options.count) {
-        let table = make(seed).text;
-        let Checked { report, calls, difference } = check(library, &table, Effort::USUAL, &mut rng_for(seed));
-        if let Some(difference) = difference {
-            return Err(shrunken(library, seed, &table, difference));
-        }
-        summary.tables += 1;
-        summary.calls += calls;
-        summary.reports[report_number(&report) as usize] += 1;
-        if options.force > 0 && seed % options.force == 0 {
-            force(seed, &table, &mut summary)?;
+/// Checks the tables of all seeds; the fault given is that of the lowest seed that has one.
+pub fn run(library: &dyn Library, options: &Options) -> Result<Outcomes, Fault> {
+    let end = AtomicU64::new(options.seed.saturating_add(options.count));
+    let parts: Vec<Result<Outcomes, Fault>> = thread::scope(|scope| {
+        let start = |part| {
+            let end = &end;
+            scope.spawn(move || run_part(library, options, part, end))
+        };
+        let threads: Vec<_> = (0..options.threads).map(start).collect();
+        threads.into_iter().map(|thread| thread.join().unwrap_or_else(|panic| resume_unwind(panic))).collect()
+    });
+    let mut all = Outcomes::default();
+    let mut first: Option<Fault> = None;
+    for part in parts {
+        match part {
+            Ok(outcomes) => all += &outcomes,
+            Err(fault) => first = first.into_iter().chain([fault]).min_by_key(Fault::seed),
         }
     }
-    Ok(summary)
+    first.map_or(Ok(all), Err)
+}
+
+/// One thread's seeds: each is as many further on as there are threads. They end where a fault was
+/// found, so that every seed before the lowest one with a fault is looked at.
+fn run_part(library: &dyn Library, options: &Options, part: u64, end: &AtomicU64) -> Result<Outcomes, Fault> {
+    let mut outcomes = Outcomes::default();
+    let mut seed = options.seed.saturating_add(part);
+    while seed < end.load(Ordering::Relaxed) {
+        let by_force = options.force > 0 && seed.is_multiple_of(options.force);
+        if let Err(fault) = run_seed(library, seed, by_force, &mut outcomes) {
+            end.fetch_min(seed, Ordering::Relaxed);
+            return Err(fault);
+        }
+        seed = seed.saturating_add(options.threads);
+    }
+    Ok(outcomes)
+}
+
+fn run_seed(library: &dyn Library, seed: u64, by_force: bool, outcomes: &mut Outcomes) -> Result<(), Fault> {
+    let table = make(seed).text;
+    let Checked { report, calls, difference } = check(library, &table, Effort::USUAL, &mut rng_for(seed));
+    if let Some(difference) = difference {
+        return Err(shrunken(library, seed, &table, difference));
+    }
+    outcomes.reports[report_number(&report)] += 1;
+    outcomes.calls.iter_mut().zip(calls).for_each(|(all, calls)| *all += calls);
+    if by_force {
+        outcomes.looked(force(seed, &table)?);
+    }
+    Ok(())
 }
 
 /// The numbers drawn for a seed's checks are not those of its table.
@@ -58,29 +82,25 @@ fn rng_for(seed: u64) -> Rng {
     Rng::new(!seed)
 }
 
-fn report_number(report: &Reply) -> u32 {
+fn report_number(report: &Reply) -> usize {
     match report {
         Reply::Text(_) => 0,
-        Reply::Refused { number, .. } => *number,
+        Reply::Refused { number, .. } => *number as usize,
     }
 }
 
-/// Demand 3 by force on a table that gives figures.
-fn force(seed: u64, table: &[u8], summary: &mut Summary) -> Result<(), Fault> {
-    let Ok((values, hyperperiod)) = judge(table) else { return Ok(()) };
+/// Demand 3 by force on a table, which has something to look at if the table gives figures.
+fn force(seed: u64, table: &[u8]) -> Result<demand3::Looked, Fault> {
+    let Ok((values, hyperperiod)) = judge(table) else { return Ok(demand3::Looked::default()) };
     let walk = walk(&values, hyperperiod, |_, _| ());
     let mut rng = rng_for(seed);
     let style = rng.below(3);
     let needs = |budget| need(&mut rng, style, budget);
-    let looked = demand3::check(&values, hyperperiod, &walk, PAST, needs).map_err(|what| Fault::Demand3 {
+    demand3::check(&values, hyperperiod, &walk, PAST, needs).map_err(|what| Fault::Demand3 {
         seed,
         table: table.to_vec(),
         what,
-    })?;
-    summary.forced += u64::from(looked.attained > 0);
-    summary.invocations += looked.invocations;
-    summary.attained += looked.attained;
-    Ok(())
+    })
 }
 
 /// A need from 1 to the budget: anything, or an end, or mostly the least.
@@ -101,21 +121,12 @@ fn shrunken(library: &dyn Library, seed: u64, table: &[u8], found: Difference) -
     Fault::Differs { seed, table, difference }
 }
 
-impl fmt::Display for Summary {
-    fn fmt(&self, out: &mut fmt::Formatter) -> fmt::Result {
-        write!(
-            out,
-            "{} tables, {} calls, 0 differences; answers {}",
-            self.tables, self.calls, self.reports[0]
-        )?;
-        for (number, count) in self.reports.iter().enumerate().skip(1) {
-            write!(out, ", refusal {number} {count}")?;
+impl Fault {
+    /// The seed of its table.
+    fn seed(&self) -> u64 {
+        match self {
+            Fault::Differs { seed, .. } | Fault::Demand3 { seed, .. } => *seed,
         }
-        write!(
-            out,
-            "; demand 3 on {} tables, {} invocations, {} figures attained",
-            self.forced, self.invocations, self.attained
-        )
     }
 }
 

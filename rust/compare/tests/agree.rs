@@ -6,12 +6,11 @@ use compare::options::Options;
 use compare::run::run;
 
 fn agrees(library: &dyn Library, seed: u64) {
-    let options = Options { seed, count: 2_000, force: 0, against: library.name().to_string() };
-    let summary = run(library, &options).unwrap_or_else(|fault| panic!("{fault}"));
-    assert_eq!(summary.tables, 2_000);
-    assert_eq!(summary.reports.iter().sum::<u64>(), 2_000);
-    assert!(summary.reports.iter().all(|&count| count > 0), "{summary}");
-    assert!(summary.calls > 50_000, "{summary}");
+    let options = Options { seed, count: 2_000, force: 0, ..Options::default() };
+    let outcomes = run(library, &options).unwrap_or_else(|fault| panic!("{fault}"));
+    assert_eq!(outcomes.reports.iter().sum::<u64>(), 2_000);
+    assert!(outcomes.missing(false).is_empty(), "{outcomes}");
+    assert!(outcomes.calls.iter().sum::<u64>() > 50_000, "{outcomes}");
 }
 
 #[test]

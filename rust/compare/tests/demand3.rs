@@ -11,13 +11,13 @@ use simulator::walk::{Stop, Walk, walk};
 
 #[test]
 fn figures_are_never_passed_and_are_attained() {
-    let options = Options { seed: 3_000_000, count: 1_000, force: 1, against: "event".into() };
-    let summary = run(&Plain(baseline::Pace::Event), &options).unwrap_or_else(|fault| panic!("{fault}"));
+    let options = Options { seed: 3_000_000, count: 1_000, force: 1, ..Options::default() };
+    let outcomes = run(&Plain(baseline::Pace::Event), &options).unwrap_or_else(|fault| panic!("{fault}"));
     // Each table that is answered was looked at, with figures for its graphs.
-    assert_eq!(summary.forced, summary.reports[0]);
-    assert!(summary.forced > 400, "{summary}");
-    assert!(summary.attained >= summary.forced, "{summary}");
-    assert!(summary.invocations > 100_000, "{summary}");
+    assert_eq!(outcomes.forced, outcomes.reports[0]);
+    assert!(outcomes.forced > 400, "{outcomes}");
+    assert!(outcomes.attained >= outcomes.forced, "{outcomes}");
+    assert!(outcomes.invocations > 100_000, "{outcomes}");
 }
 
 /// The settled tables of some seeds.

@@ -10,7 +10,7 @@ use simulator::Answer;
 /// A plain engine whose answers are spoilt after the fact.
 struct Spoilt<F>(F);
 
-impl<F: Fn(Question, &[u8], &mut [u8], Answer) -> Answer> Library for Spoilt<F> {
+impl<F: Fn(Question, &[u8], &mut [u8], Answer) -> Answer + Sync> Library for Spoilt<F> {
     fn name(&self) -> &str {
         "spoilt"
     }
@@ -27,8 +27,8 @@ impl<F: Fn(Question, &[u8], &mut [u8], Answer) -> Answer> Library for Spoilt<F> 
 }
 
 /// The shrunken table and the question of the first difference.
-fn found(spoil: impl Fn(Question, &[u8], &mut [u8], Answer) -> Answer) -> (String, Question) {
-    let options = Options { seed: 1, count: 2_000, force: 0, against: "spoilt".into() };
+fn found(spoil: impl Fn(Question, &[u8], &mut [u8], Answer) -> Answer + Sync) -> (String, Question) {
+    let options = Options { seed: 1, count: 2_000, force: 0, ..Options::default() };
     match run(&Spoilt(spoil), &options) {
         Err(Fault::Differs { table, difference, .. }) => {
             (String::from_utf8_lossy(&table).into_owned(), difference.question)
@@ -133,7 +133,7 @@ fn fault_shows_the_table_and_both_answers() {
         answer.number += u32::from(answer.number == 8);
         answer
     };
-    let options = Options { seed: 1, count: 2_000, force: 0, against: "spoilt".into() };
+    let options = Options { seed: 1, count: 2_000, force: 0, ..Options::default() };
     let shown = run(&Spoilt(spoil), &options).expect_err("a fault").to_string();
     assert!(shown.contains("    processors="), "{shown}");
     assert!(shown.contains("second simulator: number 8, line 0, length 0"), "{shown}");

@@ -8,14 +8,23 @@ fn read(line: &str) -> Result<Options, String> {
 
 #[test]
 fn values_are_taken() {
-    let options = read("--seed 7 --count 9 --force 0 --against event").expect("options");
-    assert_eq!(options, Options { seed: 7, count: 9, force: 0, against: "event".into() });
+    let options = read("--seed 7 --count 9 --force 0 --threads 3 --against event").expect("options");
+    assert_eq!(options, Options { seed: 7, count: 9, force: 0, threads: 3, against: "event".into() });
     assert_eq!(read("").expect("defaults").seed, 1);
 }
 
 #[test]
 fn wrong_lines_are_refused() {
-    for line in ["--seed", "--seed x", "--count -1", "--what 1", "--against nothing", "seed 1"] {
+    for line in [
+        "--seed",
+        "--seed x",
+        "--count -1",
+        "--count 0",
+        "--threads 0",
+        "--what 1",
+        "--against nothing",
+        "seed 1",
+    ] {
         assert!(read(line).is_err(), "{line}");
     }
 }

@@ -2,7 +2,7 @@
 
 use crate::fill::{fill, hyperperiod, load};
 use crate::rng::Rng;
-use crate::{damage, limits, shapes};
+use crate::shapes;
 use simulator::limits as bounds;
 use simulator::{Graph, Node, Table};
 
@@ -38,25 +38,6 @@ impl Kind {
         Kind::NearLimits,
         Kind::Damaged,
     ];
-}
-
-/// A table's text and the kind it was made as.
-#[derive(Clone, Debug, PartialEq, Eq)]
-pub struct Made {
-    pub kind: Kind,
-    pub text: Vec<u8>,
-}
-
-/// The table of a seed. Neighbouring seeds share nothing.
-pub fn make(seed: u64) -> Made {
-    let mut rng = Rng::new(seed);
-    let kind = Kind::ALL[rng.below(Kind::ALL.len())];
-    let text = match kind {
-        Kind::NearLimits => limits::text(&mut rng),
-        Kind::Damaged => damage::text(&mut rng),
-        _ => valid(&mut rng, kind).text().into_bytes(),
-    };
-    Made { kind, text }
 }
 
 /// A table of a kind that passes the reader.

@@ -5,15 +5,18 @@
 //! - `fill`: budgets that bring a table to a wanted load;
 //! - `kinds`: one maker per kind of table;
 //! - `limits`: tables at a limit or one past it;
-//! - `damage`: texts that are no tables any more.
+//! - `damage`: texts that are no tables any more;
+//! - `make`: the table of a seed, of any kind.
 #![forbid(unsafe_code)]
 
 pub mod damage;
 pub mod fill;
 pub mod kinds;
 pub mod limits;
+pub mod make;
 pub mod rng;
 pub mod shapes;
 
-pub use kinds::{Kind, Made, make};
+pub use kinds::Kind;
+pub use make::{Made, make};
 pub use rng::Rng;

@@ -13,7 +13,7 @@ pub struct Run {
 }
 
 /// The schedule up to the instant last worked on. For each instant t from 0
-/// on, call `finish(t)`, `release(t)`, `run(t)` in this order (rule 3).
+/// on, call `finish(t)`, `release(t)`, `run()` in this order (rule 3).
 pub struct Schedule<'a, Needs> {
     table: &'a Table,
     /// By graph and node.

@@ -4,7 +4,7 @@ mod common;
 use common::*;
 use simulator::{Reply, report, row};
 
-/// Three graphs with every kind of line, each line passing.
+/// Two graphs with every kind of line, each line passing.
 const GOOD: &str = "processors=2\nrounds=64\ngraphs=2\nperiod=6\noffset=1\nnodes=3\n\
     budget=1\nlevel=1\nafter=none\nbudget=2\nlevel=2\nafter=1\nbudget=1\nlevel=4\nafter=1,2\n\
     period=12\noffset=0\nnodes=1\nbudget=3\nlevel=1\nafter=none\n";
@@ -226,7 +226,7 @@ fn node_without_successor_is_refused_on_the_graphs_last_line() {
     let end = cut.windows(3).position(|w| w == b"=12").expect("graph 2's period");
     cut.truncate(end);
     refuses(&cut, 4, 15);
-    // A wrong list on that line is judged first, by the same number.
+    // A misspelled list on that line is judged first, as 2.
     refuses(&with_line(15, "after=1,"), 2, 15);
 }
 

@@ -1,0 +1,15 @@
+//! What a call returns.
+
+/// What a call returns; number 0 is an answer, all else a refusal.
+#[derive(Clone, Copy, Debug, PartialEq, Eq)]
+pub struct Answer {
+    pub number: u32,
+    pub line: u32,
+    pub length: usize,
+}
+
+impl Answer {
+    pub fn refusal(number: u32, line: u32) -> Answer {
+        Answer { number, line, length: 0 }
+    }
+}

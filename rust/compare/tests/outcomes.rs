@@ -1,0 +1,88 @@
+//! A run must meet every outcome, and finds the same on any number of threads.
+
+use baseline::Pace;
+use compare::library::{Library, Plain};
+use compare::options::Options;
+use compare::outcomes::{Outcomes, REFUSALS};
+use compare::run::run;
+use simulator::Answer;
+use std::process::Command;
+
+/// Outcomes that have all come up once.
+fn all() -> Outcomes {
+    let once = [1; REFUSALS + 1];
+    Outcomes { reports: once, calls: once, forced: 1, invocations: 1, attained: 1 }
+}
+
+#[test]
+fn each_outcome_is_missed() {
+    assert!(all().missing(true).is_empty());
+    for number in 1..=REFUSALS {
+        let mut without = all();
+        without.calls[number] = 0;
+        assert_eq!(without.missing(true), [format!("refusal {number}")]);
+    }
+    let mut unsettled = all();
+    unsettled.reports[0] = 0;
+    assert_eq!(unsettled.missing(true), ["a settled table"]);
+    let bare = Outcomes { invocations: 0, attained: 0, ..all() };
+    assert_eq!(bare.missing(true), ["an invocation within its figure", "a figure attained"]);
+    assert!(bare.missing(false).is_empty());
+}
+
+/// The program: exit status and what it printed.
+fn compare(words: &str) -> (Option<i32>, String) {
+    let mut command = Command::new(env!("CARGO_BIN_EXE_compare"));
+    let done = command.args(words.split_whitespace()).output().expect("the program starts");
+    (done.status.code(), String::from_utf8_lossy(&done.stdout).into_owned())
+}
+
+#[test]
+fn a_run_too_small_fails() {
+    let (status, said) = compare("--against tick --seed 1 --count 3");
+    assert_eq!(status, Some(1), "{said}");
+    assert!(said.contains("0 differences") && said.contains("never came up: refusal 1, "), "{said}");
+    let (status, said) = compare("--against tick --seed 1 --count 2000");
+    assert_eq!(status, Some(0), "{said}");
+    assert_eq!(compare("--against tick --count 0").0, Some(2));
+}
+
+#[test]
+fn threads_change_nothing() {
+    let seen = |threads| {
+        let options = Options { seed: 50, count: 300, threads, ..Options::default() };
+        run(&Plain(Pace::Tick), &options).unwrap_or_else(|fault| panic!("{fault}"))
+    };
+    assert_eq!(seen(1), seen(2));
+    assert_eq!(seen(1), seen(7));
+}
+
+/// Wrong on every table of an even number of bytes.
+struct OftenWrong;
+
+impl Library for OftenWrong {
+    fn name(&self) -> &str {
+        "often wrong"
+    }
+
+    fn report(&self, table: &[u8], buffer: &mut [u8]) -> Answer {
+        let mut answer = Plain(Pace::Tick).report(table, buffer);
+        answer.line += u32::from(table.len().is_multiple_of(2));
+        answer
+    }
+
+    fn row(&self, table: &[u8], instant: u64, buffer: &mut [u8]) -> Answer {
+        Plain(Pace::Tick).row(table, instant, buffer)
+    }
+}
+
+/// The fault told is the first, whichever thread is the quickest.
+#[test]
+fn the_lowest_seed_is_told() {
+    let fault = |threads| {
+        let options = Options { seed: 1, count: 500, force: 0, threads, ..Options::default() };
+        run(&OftenWrong, &options).expect_err("a fault")
+    };
+    assert_eq!(fault(1), fault(2));
+    assert_eq!(fault(1), fault(5));
+}
