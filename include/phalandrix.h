@@ -72,12 +72,12 @@ static inline const char *phalandrix_sentence(uint32_t number)
 }
 
 enum {
-    /* A report has at most so many bytes, and a row: with a buffer that holds them, a call is never
-     * refused as PHALANDRIX_SHORT_BUFFER. Both are proved. */
+    /* The length of the longest report, and of the longest row. A call whose buffer is that long is
+     * never refused as PHALANDRIX_SHORT_BUFFER; this is proved. */
     PHALANDRIX_REPORT_BYTES = 212,
     PHALANDRIX_ROW_BYTES = 384,
-    /* A call needs at most so many bytes of stack: measured and rounded up, and held by
-     * tests/stack.c; not proved. */
+    /* The bytes of stack that a call needs at most: measured, rounded up, and held by tests/stack.c.
+     * It is not proved. */
     PHALANDRIX_STACK_BYTES = 36864
 };
 

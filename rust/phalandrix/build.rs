@@ -41,9 +41,9 @@ fn rust_of(header: &str) -> String {
     writeln!(made, "/// The version of the library's header.\npub const VERSION: &str = {version:?};")
         .unwrap();
     for (name, about) in [
-        ("REPORT_BYTES", "No report is longer: with a buffer of so many bytes none is refused as 10."),
-        ("ROW_BYTES", "No row is longer: with a buffer of so many bytes none is refused as 10."),
-        ("STACK_BYTES", "A call needs at most so many bytes of stack; measured, not proved."),
+        ("REPORT_BYTES", "The length of the longest report: a call with a buffer of that length is never refused as 10."),
+        ("ROW_BYTES", "The length of the longest row: a call with a buffer of that length is never refused as 10."),
+        ("STACK_BYTES", "The bytes of stack that a call needs at most; measured, not proved."),
     ] {
         let size = between(header, &format!("PHALANDRIX_{name} = "), "\n").trim_end_matches(',');
         writeln!(made, "/// {about}\npub const {name}: usize = {size};").unwrap();
