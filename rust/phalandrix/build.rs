@@ -41,8 +41,8 @@ fn rust_of(header: &str) -> String {
     writeln!(made, "/// The version of the library's header.\npub const VERSION: &str = {version:?};")
         .unwrap();
     for (name, about) in [
-        ("REPORT_BYTES", "The length of the longest report: a call with a buffer of that length is never refused as 10."),
-        ("ROW_BYTES", "The length of the longest row: a call with a buffer of that length is never refused as 10."),
+        ("REPORT_BYTES", "The length of the longest report: no call with such a buffer is refused as 10."),
+        ("ROW_BYTES", "The length of the longest row: no call with such a buffer is refused as 10."),
         ("STACK_BYTES", "The bytes of stack that a call needs at most; measured, not proved."),
     ] {
         let size = between(header, &format!("PHALANDRIX_{name} = "), "\n").trim_end_matches(',');
