@@ -47,7 +47,7 @@ typedef struct phalandrix_answer {
     REFUSAL(6, NOT_LOADABLE, "the budgets ask for more ticks in a hyperperiod than the processors have") \
     REFUSAL(7, BACKLOG, "a server has more than 16 pending server jobs, or a graph more than 64 unfinished invocations") \
     REFUSAL(8, UNSETTLED, "the schedule does not repeat within `rounds` hyperperiods") \
-    REFUSAL(9, PAST_THE_STOP, "the instant is at or past the instant where the walk stops") \
+    REFUSAL(9, PAST_THE_STOP, "the instant asked is at or past the stop of the walk") \
     REFUSAL(10, SHORT_BUFFER, "the text of the answer is longer than the buffer")
 
 /* The numbers: PHALANDRIX_ANSWERED, and one for each refusal above. */

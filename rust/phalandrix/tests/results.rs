@@ -41,7 +41,7 @@ fn refusals_as_values() {
     );
     let refusal = row_at(TABLE, 8).unwrap_err();
     assert_eq!((refusal.reason, refusal.line), (Reason::PastTheStop, 0));
-    assert!(refusal.to_string().starts_with("refusal 9: the instant is"), "{refusal}");
+    assert!(refusal.to_string().starts_with("refusal 9: the instant asked is"), "{refusal}");
 }
 
 /// The list that the build script made of the header's.
