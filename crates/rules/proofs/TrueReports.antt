@@ -11,9 +11,9 @@ use Rattle.format.specs.Refusals.{numberOf}
 use Rattle.rules.specs.AnswerNumbers.{answerNumber}
 use Rattle.schedule.specs.Table.{Table}
 use Rattle.schedule.specs.Servers.{boxOf}
-use Rattle.schedule.specs.Walk.{Stop, settled, unsettled, backlog, figures, walked}
+use Rattle.schedule.specs.Walk.{Stop, settled, unsettled, backlog, figures, walked, wholeWalk}
 use Rattle.rules.specs.Admission.{Admission, admitted, refused, admissionOf}
-use Rattle.rules.specs.Answers.{Reply, says, refuses, reportOn, reportAdmitted, wholeWalk, reportOf, fitted, left, callOf}
+use Rattle.rules.specs.Answers.{Reply, says, refuses, reportOn, reportAdmitted, reportOf, fitted, left, callOf}
 use Rattle.rules.specs.Demands.{TrueReport}
 use Rattle.rules.proofs.ReadWellFormed.{admitted-well-formed}
 use Rattle.theorems.proofs.TableBox.{length-sinks}

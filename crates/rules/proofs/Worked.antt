@@ -1,16 +1,40 @@
--- The worked tables hold, by one computed test over their list: for the walk in one pass, and so for that of the definitions.
-use mathlib.Core.Path.{subst}
-use lib.Dec.{T}
-use Rattle.schedule.specs.Lists.{all?}
+-- The worked cases hold, by computation: for the walk in one pass, and so for that of the definitions.
+use mathlib.Core.Path.{_≡_, refl, subst}
+use mathlib.Core.List.{List, map}
+use Prim.Native.Nat.{ℕ}
 use Rattle.schedule.specs.Servers.{Box}
-use Rattle.schedule.specs.Walk.{Walked}
-use Rattle.rules.specs.Answers.{wholeWalk}
-use Rattle.rules.specs.Worked.{linkedIn, holds, workedTables}
-use Rattle.rules.proofs.Computing.{answering, onePassWalk, same-walk}
+use Rattle.schedule.specs.Walk.{Walked, wholeWalk}
+use Rattle.schedule.proofs.Walking.{onePassWalk, same-walk}
+use Rattle.format.specs.Bytes.{bytes}
+use Rattle.rules.specs.Admission.{admit, admissionOf}
+use Rattle.rules.specs.Answers.{printed, callOf}
+use Rattle.rules.specs.Worked.{AdmissionCase, admissions, replyTo, PrintCase, printCases, CallCase, callCases, lent}
+use Rattle.rules.proofs.Computing.{answering}
 
-computed : T (all? (holds onePassWalk) workedTables)
-unfolding answering linkedIn workedTables
-computed = tt
+pub admissions-hold : map (λ (c : AdmissionCase). admit (c .table)) admissions ≡ map (λ (c : AdmissionCase). c .gives (c .table)) admissions
+unfolding answering admissions
+admissions-hold = refl
 
-pub worked-tables-hold : T (all? (holds wholeWalk) workedTables)
-worked-tables-hold = subst (λ (walk : Box → Walked). T (all? (holds walk) workedTables)) same-walk computed
+-- by the walk of a box
+abbrev Printed : (Box → Walked) → Type 0
+Printed walk =
+    map (λ (c : PrintCase). printed (replyTo walk (c .asked) (admissionOf (bytes (c .table))))) printCases ≡ map (λ (c : PrintCase). bytes (c .prints)) printCases
+
+abbrev Called : (Box → Walked) → Type 0
+Called walk =
+    map (λ (c : CallCase). callOf (lent (c .room)) (replyTo walk (c .asked) (admissionOf (bytes (c .table))))) callCases
+    ≡ map (λ (c : CallCase). c .gives) callCases
+
+printed-computed : Printed onePassWalk
+unfolding answering printCases
+printed-computed = refl
+
+called-computed : Called onePassWalk
+unfolding answering callCases
+called-computed = refl
+
+pub answers-hold : Printed wholeWalk
+answers-hold = subst Printed same-walk printed-computed
+
+pub calls-hold : Called wholeWalk
+calls-hold = subst Called same-walk called-computed

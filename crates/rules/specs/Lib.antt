@@ -1,5 +1,5 @@
-pub mod Demands
-pub mod Answers
-pub mod Worked
 pub mod Admission
+pub mod Answers
 pub mod AnswerNumbers
+pub mod Demands
+pub mod Worked

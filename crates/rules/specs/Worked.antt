@@ -1,55 +1,44 @@
--- Document 01's worked tables that are marked *, in one list, from the bytes of each table; and some more that see a slip which those do
--- not. The test over the list is proved by computation in proofs/Worked.antt.
-use mathlib.Core.Bool.{Bool, false, _&&_, not}
-use mathlib.Core.List.{List, [], _∷_}
-use Prim.Native.Nat.{ℕ, suc, _-_}
+-- Worked cases of admission, of answers and of calls with a lent buffer. They are computed in proofs/Worked.antt.
+use mathlib.Core.List.{List, [], _∷_, _++_}
+use Prim.Native.Nat.{ℕ}
 use Prim.Native.String.{String}
-use lib.Dec.{eqb}
-use Rattle.format.specs.Bytes.{bytes}
-use Rattle.schedule.specs.Lists.{alike, cell}
-use Rattle.schedule.specs.Servers.{Box, boxOf, srv, whole}
-use Rattle.schedule.specs.ServerJobs.{releaseOf}
-use Rattle.schedule.specs.Links.{links, dueBy}
+use lib.ListN.{length, replicate}
+use Rattle.schedule.specs.Table.{Table}
+use Rattle.schedule.specs.Described.{table, graph, alone, one, chain}
+use Rattle.schedule.specs.Servers.{Box}
 use Rattle.schedule.specs.Walk.{Walked}
+use Rattle.format.specs.declared.Refusal.{Refusal}
+use Rattle.format.specs.declared.Refusal.the-variants.{Misspelled, OutsideLimits, AgainstPredecessorRules, LongHyperperiod, NotLoadable, Backlog, Unsettled, PastTheStop, ShortBuffer}
+use Rattle.format.specs.Bytes.{bytes}
+use Rattle.rules.specs.declared.Answer.the-variants.{Text, Refused}
 use Rattle.rules.specs.Admission.{Admission, admitted, refused, admissionOf}
-use Rattle.rules.specs.Answers.{printed, reportAdmitted, rowAdmitted}
+use Rattle.rules.specs.Answers.{Reply, reportAdmitted, rowAdmitted, Call}
 
--- what is said of a table
-pub data Statement : Type 0 where
-  -- the program prints this text; and this for the row at t
-  prints : String → Statement
-  printsRow : (t : ℕ) → String → Statement
-  -- the walk stops at t
-  stopsAt : (t : ℕ) → Statement
-  -- of node number v of graph 1, job j is released at t, and is linked at t: to server job k, which is released then
-  linksAt : (v j k t : ℕ) → Statement
+-- admission: H at its limit and past it, the load full and past it, and 5 before 6
+pub record AdmissionCase : Type 0 where
+  pub table : Table
+  pub gives : Table → Admission
 
-pub record Worked : Type 0 where
-  pub table : String
-  pub says : Statement
+abbrev pub admits : Table → AdmissionCase
+admits T = record { table = T; gives = admitted }
 
-abbrev pub ofBox : (Box → Bool) → Admission → Bool
-ofBox test (refused r) = false
-ofBox test (admitted T) = test (boxOf T)
+abbrev pub refuses : Table → Refusal → AdmissionCase
+refuses T r = record { table = T; gives = λ (X : Table). refused r }
 
-unfoldable pub linkedIn : (v j k t : ℕ) → Box → Bool
-linkedIn v j k t X =
-    not (dueBy (X .servers) (X .cap) (whole (X .servers)) (t - 1) (v - 1) j)
-    && (dueBy (X .servers) (X .cap) (whole (X .servers)) t (v - 1) j
-    && (eqb (releaseOf (srv (X .servers) (v - 1)) k) t && eqb (cell (links (X .servers) (X .cap) (whole (X .servers)) (suc t)) (v - 1) k) j))
+abbrev pub twoPeriods : ℕ → ℕ → ℕ → Table
+twoPeriods p q budget = table 1 1 (graph p 0 (one budget 1) ∷ graph q 0 (one 1 1) ∷ [])
 
--- by the walk of a box
-module _ (walk : Box → Walked) where
-  abbrev pub holdsOf : Admission → Statement → Bool
-  holdsOf a (prints text) = alike eqb (printed (reportAdmitted walk a)) (bytes text)
-  holdsOf a (printsRow t text) = alike eqb (printed (rowAdmitted walk t a)) (bytes text)
-  holdsOf a (stopsAt t) = ofBox (λ (X : Box). eqb ((walk X) .ticks) t) a
-  holdsOf a (linksAt v j k t) = ofBox (linkedIn v j k t) a
+unfoldable pub admissions : List AdmissionCase
+admissions =
+    admits (twoPeriods 4000 10000 1)
+    ∷ refuses (twoPeriods 177 113 1) LongHyperperiod
+    ∷ refuses (twoPeriods 10000 6667 1) LongHyperperiod
+    ∷ admits (alone 1 1 4 (chain 2 2))
+    ∷ refuses (alone 1 1 4 (chain 3 2)) NotLoadable
+    ∷ refuses (twoPeriods 177 113 177) LongHyperperiod
+    ∷ []
 
-  abbrev pub holds : Worked → Bool
-  holds w = holdsOf (admissionOf (bytes (w .table))) (w .says)
-
--- one graph of one node; and a chain of two
+-- tables of one graph as text: processors, rounds, period, and the nodes' lines
 abbrev pub node-1-every-4 : String
 node-1-every-4 = "processors=1\nrounds=64\ngraphs=1\nperiod=4\noffset=0\nnodes=1\nbudget=1\nlevel=1\nafter=none\n"
 
@@ -59,64 +48,105 @@ chain-1-1 = "processors=1\nrounds=64\ngraphs=1\nperiod=4\noffset=0\nnodes=2\nbud
 abbrev pub chain-1-1-in-1-round : String
 chain-1-1-in-1-round = "processors=1\nrounds=1\ngraphs=1\nperiod=4\noffset=0\nnodes=2\nbudget=1\nlevel=1\nafter=none\nbudget=1\nlevel=1\nafter=1\n"
 
-abbrev pub chain-1-1-in-2-rounds : String
-chain-1-1-in-2-rounds = "processors=1\nrounds=2\ngraphs=1\nperiod=4\noffset=0\nnodes=2\nbudget=1\nlevel=1\nafter=none\nbudget=1\nlevel=1\nafter=1\n"
-
-abbrev pub chain-2-2 : String
-chain-2-2 = "processors=1\nrounds=64\ngraphs=1\nperiod=4\noffset=0\nnodes=2\nbudget=2\nlevel=1\nafter=none\nbudget=2\nlevel=1\nafter=1\n"
-
 abbrev pub chain-3-2 : String
 chain-3-2 = "processors=1\nrounds=64\ngraphs=1\nperiod=4\noffset=0\nnodes=2\nbudget=3\nlevel=1\nafter=none\nbudget=2\nlevel=1\nafter=1\n"
 
 abbrev pub chain-4-4 : String
 chain-4-4 = "processors=2\nrounds=64\ngraphs=1\nperiod=4\noffset=0\nnodes=2\nbudget=4\nlevel=1\nafter=none\nbudget=4\nlevel=1\nafter=1\n"
 
-abbrev pub level-2 : String
-level-2 = "processors=2\nrounds=64\ngraphs=1\nperiod=2\noffset=0\nnodes=1\nbudget=3\nlevel=2\nafter=none\n"
-
-abbrev pub level-1-in-46-rounds : String
-level-1-in-46-rounds = "processors=2\nrounds=46\ngraphs=1\nperiod=2\noffset=0\nnodes=1\nbudget=3\nlevel=1\nafter=none\n"
-
-abbrev pub level-1-in-47-rounds : String
-level-1-in-47-rounds = "processors=2\nrounds=47\ngraphs=1\nperiod=2\noffset=0\nnodes=1\nbudget=3\nlevel=1\nafter=none\n"
-
 abbrev pub two-graphs : String
 two-graphs = "processors=1\nrounds=64\ngraphs=2\nperiod=4\noffset=0\nnodes=1\nbudget=1\nlevel=1\nafter=none\nperiod=4\noffset=0\nnodes=1\nbudget=1\nlevel=1\nafter=none\n"
 
-abbrev pub two-offsets : String
-two-offsets = "processors=1\nrounds=64\ngraphs=2\nperiod=4\noffset=0\nnodes=1\nbudget=2\nlevel=1\nafter=none\nperiod=8\noffset=1\nnodes=1\nbudget=3\nlevel=1\nafter=none\n"
+-- one server job of 8 ticks is released in each tick, and runs alone: 17 are pending at 18
+abbrev pub late-at-18 : String
+late-at-18 = "processors=8\nrounds=64\ngraphs=1\nperiod=1\noffset=0\nnodes=1\nbudget=8\nlevel=1\nafter=none\n"
 
--- periods that a number of 16, 32 or 64 bits would take for 4: the marked tables do not see digits that wrap
-abbrev pub period-2¹⁶+4 : String
-period-2¹⁶+4 = "processors=1\nrounds=64\ngraphs=1\nperiod=65540\noffset=0\nnodes=1\nbudget=1\nlevel=1\nafter=none\n"
+-- what is asked of a table
+pub data Asked : Type 0 where
+  report : Asked
+  row : ℕ → Asked
 
-abbrev pub period-2³²+4 : String
-period-2³²+4 = "processors=1\nrounds=64\ngraphs=1\nperiod=4294967300\noffset=0\nnodes=1\nbudget=1\nlevel=1\nafter=none\n"
+module _ (walk : Box → Walked) where
+  abbrev pub replyTo : Asked → Admission → Reply
+  replyTo report a = reportAdmitted walk a
+  replyTo (row t) a = rowAdmitted walk t a
 
-abbrev pub period-2⁶⁴+4 : String
-period-2⁶⁴+4 = "processors=1\nrounds=64\ngraphs=1\nperiod=18446744073709551620\noffset=0\nnodes=1\nbudget=1\nlevel=1\nafter=none\n"
+pub record PrintCase : Type 0 where
+  pub table : String
+  pub asked : Asked
+  pub prints : String
 
-unfoldable pub workedTables : List Worked
-workedTables =
-    record { table = node-1-every-4; says = prints "answer=0\nround=1\nticks=4\nresponse=1\n" }
-    ∷ record { table = chain-1-1; says = prints "answer=0\nround=2\nticks=8\nresponse=6\n" }
-    ∷ record { table = chain-1-1-in-1-round; says = prints "answer=8\nline=0\n" }
-    ∷ record { table = chain-1-1-in-2-rounds; says = prints "answer=0\nround=2\nticks=8\nresponse=6\n" }
-    ∷ record { table = chain-1-1; says = printsRow 1 "run=1,2,1,0\n" }
-    ∷ record { table = chain-1-1; says = printsRow 5 "run=1,2,2,1\n" }
-    ∷ record { table = chain-1-1; says = printsRow 2 "" }
-    ∷ record { table = chain-1-1; says = printsRow 8 "answer=9\nline=0\n" }
-    ∷ record { table = chain-2-2; says = prints "answer=0\nround=2\nticks=8\nresponse=8\n" }
-    ∷ record { table = chain-3-2; says = prints "answer=6\nline=0\n" }
-    ∷ record { table = chain-4-4; says = prints "answer=0\nround=2\nticks=8\nresponse=8\n" }
-    ∷ record { table = chain-4-4; says = linksAt 2 1 2 4 }
-    ∷ record { table = level-2; says = prints "answer=0\nround=2\nticks=4\nresponse=3\n" }
-    ∷ record { table = level-1-in-46-rounds; says = prints "answer=8\nline=0\n" }
-    ∷ record { table = level-1-in-47-rounds; says = prints "answer=7\nline=0\n" }
-    ∷ record { table = level-1-in-47-rounds; says = stopsAt 92 }
-    ∷ record { table = two-graphs; says = prints "answer=0\nround=1\nticks=4\nresponse=1\nresponse=2\n" }
-    ∷ record { table = two-offsets; says = prints "answer=0\nround=1\nticks=9\nresponse=2\nresponse=6\n" }
-    ∷ record { table = period-2¹⁶+4; says = prints "answer=3\nline=4\n" }
-    ∷ record { table = period-2³²+4; says = prints "answer=3\nline=4\n" }
-    ∷ record { table = period-2⁶⁴+4; says = prints "answer=3\nline=4\n" }
+abbrev pub prints : String → Asked → String → PrintCase
+prints T q s = record { table = T; asked = q; prints = s }
+
+unfoldable pub printCases : List PrintCase
+printCases =
+    prints node-1-every-4 report "answer=0\nround=1\nticks=4\nresponse=1\n"
+    ∷ prints chain-1-1 report "answer=0\nround=2\nticks=8\nresponse=6\n"
+    ∷ prints two-graphs report "answer=0\nround=1\nticks=4\nresponse=1\nresponse=2\n"
+    -- refusals print their number and line
+    ∷ prints "" report "answer=2\nline=1\n"
+    ∷ prints "processors=1\nrounds=0\n" report "answer=3\nline=2\n"
+    ∷ prints chain-3-2 report "answer=6\nline=0\n"
+    ∷ prints late-at-18 report "answer=7\nline=0\n"
+    ∷ prints chain-1-1-in-1-round report "answer=8\nline=0\n"
+    -- rows: a line for each running server job; none in an idle tick
+    ∷ prints chain-1-1 (row 1) "run=1,2,1,0\n"
+    ∷ prints chain-1-1 (row 5) "run=1,2,2,1\n"
+    ∷ prints chain-1-1 (row 2) ""
+    ∷ prints chain-4-4 (row 4) "run=1,1,2,2\nrun=1,2,2,1\n"
+    -- at or past the stop
+    ∷ prints chain-1-1 (row 7) ""
+    ∷ prints chain-1-1 (row 8) "answer=9\nline=0\n"
+    ∷ prints chain-1-1 (row 9) "answer=9\nline=0\n"
+    -- before the stop also where the report gives 7 or 8; the table's own refusals come first
+    ∷ prints chain-1-1-in-1-round (row 0) "run=1,1,1,1\n"
+    ∷ prints chain-1-1-in-1-round (row 4) "answer=9\nline=0\n"
+    ∷ prints late-at-18 (row 17) "run=1,1,3,3\n"
+    ∷ prints late-at-18 (row 18) "answer=9\nline=0\n"
+    ∷ prints chain-3-2 (row 9) "answer=6\nline=0\n"
+    ∷ []
+
+-- calls with a lent buffer, whose bytes are all 255
+pub record CallCase : Type 0 where
+  pub table : String
+  pub asked : Asked
+  pub room : ℕ
+  pub gives : Call
+
+abbrev pub lent : ℕ → List ℕ
+lent n = replicate n 255
+
+-- the text, then `more` bytes as they were
+abbrev pub writes : String → Asked → String → ℕ → CallCase
+writes T q s more =
+    let n : ℕ = length (bytes s) in
+    record { table = T; asked = q; room = length (bytes s ++ lent more); gives = record { answer = Text n; buffer = bytes s ++ lent more } }
+
+-- a refusal, and the buffer as it was
+abbrev pub leaves : String → Asked → ℕ → Refusal → CallCase
+leaves T q n r = record { table = T; asked = q; room = n; gives = record { answer = Refused r; buffer = lent n } }
+
+unfoldable pub callCases : List CallCase
+callCases =
+    -- the text is 36 bytes long
+    leaves node-1-every-4 report 0 ShortBuffer
+    ∷ leaves node-1-every-4 report 35 ShortBuffer
+    ∷ writes node-1-every-4 report "answer=0\nround=1\nticks=4\nresponse=1\n" 0
+    ∷ writes node-1-every-4 report "answer=0\nround=1\nticks=4\nresponse=1\n" 1
+    ∷ writes node-1-every-4 report "answer=0\nround=1\nticks=4\nresponse=1\n" 9
+    -- two lines of 12 bytes; an idle tick has text of length 0, and needs no room
+    ∷ leaves chain-4-4 (row 4) 23 ShortBuffer
+    ∷ writes chain-4-4 (row 4) "run=1,1,2,2\nrun=1,2,2,1\n" 0
+    ∷ writes chain-4-4 (row 4) "run=1,1,2,2\nrun=1,2,2,1\n" 3
+    ∷ writes chain-1-1 (row 2) "" 0
+    ∷ writes chain-1-1 (row 2) "" 4
+    -- every other refusal comes before 10, and a buffer that is long enough changes none
+    ∷ leaves "" report 0 (Misspelled 1)
+    ∷ leaves chain-3-2 report 0 NotLoadable
+    ∷ leaves late-at-18 report 0 Backlog
+    ∷ leaves chain-1-1-in-1-round report 0 Unsettled
+    ∷ leaves chain-1-1 (row 8) 0 PastTheStop
+    ∷ leaves chain-1-1-in-1-round report 50 Unsettled
+    ∷ leaves chain-1-1 (row 8) 50 PastTheStop
     ∷ []

@@ -1,3 +1,7 @@
-pub mod OnePass
 pub mod Tests
 pub mod Cells
+pub mod Computing
+pub mod Worked
+pub mod OnePass
+pub mod Walking
+pub mod WorkedWalks

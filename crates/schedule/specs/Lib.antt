@@ -8,3 +8,6 @@ pub mod State
 pub mod Walk
 pub mod WellFormed
 pub mod LeastTrue
+pub mod Described
+pub mod WorkedTables
+pub mod WorkedWalks

@@ -7,7 +7,7 @@ use lib.Dec.{leb, ltb, eqb}
 use lib.ListN.{length}
 use Rattle.schedule.specs.Limits as Limits
 use Rattle.schedule.specs.Lists.{count, any?, keep, joined, largest, numbers, upTo, cell}
-use Rattle.schedule.specs.Servers.{Server, srv, Box}
+use Rattle.schedule.specs.Servers.{Server, srv, Box, whole}
 use Rattle.schedule.specs.ServerJobs.{ServerJob, releaseOf, released, pending, readyJobs, rank, used}
 use Rattle.schedule.specs.Links.{links}
 use Rattle.schedule.specs.State.{State, sameState, finishedCount, state, stateAt}
@@ -119,3 +119,7 @@ module _ (X : Box) (need : ℕ → ℕ → ℕ) where
       let σ : List (List ℕ) = used (X .servers) (X .cap) t in
       let ready : List ServerJob = readyJobs (X .servers) σ t in
       map (runningAt t) (joined (λ (r : ℕ). keep (λ (x : ServerJob). eqb (rank (X .servers) σ t x) r) ready) 0 (X .cap t))
+
+-- in the walk each job needs its node's whole budget
+abbrev pub wholeWalk : Box → Walked
+wholeWalk X = walked X (whole (X .servers))

@@ -9,12 +9,14 @@ use Rattle.schedule.specs.Limits as Limits
 use Rattle.schedule.specs.Lists.{alike, upTo}
 use Rattle.format.specs.Bytes.{bytes}
 use Rattle.schedule.specs.Servers.{Box}
-use Rattle.schedule.specs.Walk.{Walked}
 use Rattle.rules.specs.AnswerNumbers.{answerNumber}
 use Rattle.rules.specs.Admission.{admissionOf}
-use Rattle.rules.specs.Answers.{callOf, reportAdmitted, rowAdmitted, wholeWalk}
-use Rattle.rules.specs.Worked.{node-1-every-4, chain-1-1, chain-1-1-in-1-round, chain-3-2, level-1-in-47-rounds, period-2¹⁶+4}
-use Rattle.rules.proofs.Computing.{answering, onePassWalk, same-walk}
+use Rattle.rules.specs.Answers.{callOf, reportAdmitted, rowAdmitted}
+use Rattle.schedule.specs.Walk.{Walked, wholeWalk}
+use Rattle.rules.specs.Worked.{node-1-every-4, chain-1-1, chain-1-1-in-1-round, chain-3-2, late-at-18}
+use Rattle.worked.specs.Worked.{period-2¹⁶+4}
+use Rattle.schedule.proofs.Walking.{onePassWalk, same-walk}
+use Rattle.rules.proofs.Computing.{answering}
 
 -- a question: the report of a table, or its row at an instant, with a lent buffer of some length
 pub data Question : Type 0 where
@@ -33,7 +35,7 @@ questions =
     ∷ report (bytes "processors=1\nrounds=1\ngraphs=1\nperiod=4\noffset=0\nnodes=1\nbudget=1\nlevel=1\nafter=1\n") enough
     ∷ report (bytes "processors=1\nrounds=1\ngraphs=2\nperiod=10000\noffset=0\nnodes=1\nbudget=1\nlevel=1\nafter=none\nperiod=6667\noffset=0\nnodes=1\nbudget=1\nlevel=1\nafter=none\n") enough
     ∷ report (bytes chain-3-2) enough
-    ∷ report (bytes level-1-in-47-rounds) enough
+    ∷ report (bytes late-at-18) enough
     ∷ report (bytes chain-1-1-in-1-round) enough
     ∷ row (bytes chain-1-1) 8 enough
     ∷ report (bytes node-1-every-4) 1

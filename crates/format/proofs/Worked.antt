@@ -1,0 +1,76 @@
+-- The worked cases hold, by computation.
+use mathlib.Core.Path.{_≡_, refl}
+use mathlib.Core.List.{List, [], _∷_, _++_, map}
+use mathlib.Core.Option.{Option, none, some}
+use Prim.Native.Nat.{ℕ, suc}
+use lib.ListN.{replicate}
+use Rattle.schedule.specs.Limits as Limits
+use Rattle.schedule.specs.Limits.{Range}
+use Rattle.schedule.specs.Lists.{upTo}
+use Rattle.format.specs.declared.Refusal.{Refusal}
+use Rattle.format.specs.declared.Refusal.the-variants.{TooLong, Misspelled, OutsideLimits}
+use Rattle.format.specs.Bytes.{bytes, decimal}
+use Rattle.format.specs.Keys.{Key, key, keys}
+use Rattle.format.specs.Reading.{Outcome, done, Place, readOf}
+use Rattle.format.specs.Refusals.{numberOf, lineOf}
+use Rattle.format.specs.Worked as Worked
+use Rattle.format.specs.Worked.{allLines, lines, changed, theTable, refusalOf, LineCase, NodesCase, threeNodes, chains, Numbered, numbered}
+use Rattle.format.proofs.Computing.{reading}
+
+abbrev given : LineCase → Option Refusal
+given c = refusalOf (readOf (changed (c .line) (bytes (c .text))))
+
+abbrev Hold : List LineCase → Type 0
+Hold cases = map given cases ≡ map (λ (c : LineCase). c .gives) cases
+
+pub spellings-hold : Hold Worked.spellings
+unfolding reading lines Worked.spellings
+spellings-hold = refl
+
+pub limits-hold : Hold Worked.limits
+unfolding reading lines Worked.limits
+limits-hold = refl
+
+pub predecessors-hold : Hold Worked.predecessors
+unfolding reading lines Worked.predecessors
+predecessors-hold = refl
+
+pub orders-hold : Hold Worked.orders
+unfolding reading lines Worked.orders
+orders-hold = refl
+
+pub successors-hold : map (λ (c : NodesCase). refusalOf (readOf (threeNodes (c .second) (c .third)))) Worked.successors ≡ map (λ (c : NodesCase). c .gives) Worked.successors
+unfolding reading Worked.successors
+successors-hold = refl
+
+-- the whole table, read to its end
+pub table-holds : readOf (changed 0 []) ≡ done theTable (record { line = suc allLines; bytes = [] })
+unfolding reading lines
+table-holds = refl
+
+-- each line is needed where it stands, and its LF
+pub absent-hold : map (λ (l : ℕ). refusalOf (readOf (changed l []))) (upTo allLines) ≡ map (λ (l : ℕ). some (Misspelled l)) (upTo allLines)
+unfolding reading lines
+absent-hold = refl
+
+pub unended-hold : map (λ (l : ℕ). refusalOf (readOf (changed l (Worked.lineOf l)))) (upTo allLines) ≡ map (λ (l : ℕ). some (Misspelled l)) (upTo allLines)
+unfolding reading lines
+unended-hold = refl
+
+-- 32 nodes are the most of all graphs: of 16, 16 and 1 the third graph's line `nodes` is past it, with line 108
+pub all-nodes-hold : refusalOf (readOf (chains 16 15 1)) ∷ refusalOf (readOf (chains 16 16 1)) ∷ [] ≡ none ∷ some (OutsideLimits 108) ∷ []
+unfolding reading
+all-nodes-hold = refl
+
+-- an empty table lacks its first line; 4,096 bytes are read, of one more nothing is
+pub bytes-hold : map (λ (n : ℕ). refusalOf (readOf (replicate n 0))) (0 ∷ 4096 ∷ 4097 ∷ []) ≡ some (Misspelled 1) ∷ some (Misspelled 1) ∷ some TooLong ∷ []
+unfolding reading
+bytes-hold = refl
+
+pub refusals-hold : map (λ (c : Numbered). numbered (c .refusal) (numberOf (c .refusal)) (lineOf (c .refusal))) Worked.refusals ≡ Worked.refusals
+unfolding Worked.refusals
+refusals-hold = refl
+
+pub decimals-hold : map decimal (0 ∷ 7 ∷ 10 ∷ 905 ∷ 20000 ∷ []) ≡ bytes "0" ∷ bytes "7" ∷ bytes "10" ∷ bytes "905" ∷ bytes "20000" ∷ []
+unfolding reading
+decimals-hold = refl
