@@ -14,7 +14,7 @@ use Rattle.format.specs.Keys.{Key, key, keys}
 use Rattle.format.specs.Reading.{Outcome, done, Place, readOf}
 use Rattle.format.specs.Refusals.{numberOf, lineOf}
 use Rattle.format.specs.Worked as Worked
-use Rattle.format.specs.Worked.{allLines, lines, changed, theTable, refusalOf, LineCase, NodesCase, threeNodes, chains, Numbered, numbered}
+use Rattle.format.specs.Worked.{allLines, lines, changed, theTable, refusalOf, LineCase, NodesCase, threeNodes, afterAll, chains, KeyCase, Numbered, numbered}
 use Rattle.format.proofs.Computing.{reading}
 
 abbrev given : LineCase → Option Refusal
@@ -61,6 +61,15 @@ unended-hold = refl
 pub all-nodes-hold : refusalOf (readOf (chains 16 15 1)) ∷ refusalOf (readOf (chains 16 16 1)) ∷ [] ≡ none ∷ some (OutsideLimits 108) ∷ []
 unfolding reading
 all-nodes-hold = refl
+
+-- and a list of 15 numbers the longest
+pub after-all-holds : refusalOf (readOf afterAll) ≡ none
+unfolding reading
+after-all-holds = refl
+
+pub keys-hold : keys ≡ map (λ (c : KeyCase). key (c .name) (record { from = c .from; to = c .to })) Worked.keyCases
+unfolding reading Worked.keyCases
+keys-hold = refl
 
 -- an empty table lacks its first line; 4,096 bytes are read, of one more nothing is
 pub bytes-hold : map (λ (n : ℕ). refusalOf (readOf (replicate n 0))) (0 ∷ 4096 ∷ 4097 ∷ []) ≡ some (Misspelled 1) ∷ some (Misspelled 1) ∷ some TooLong ∷ []

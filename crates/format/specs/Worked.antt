@@ -233,8 +233,36 @@ nodeText v = bytes "budget=1\nlevel=1\nafter=" ++ (cond (eqb v 1) (bytes "none")
 abbrev pub chainText : ℕ → List ℕ
 chainText n = bytes "period=100\noffset=0\n" ++ (number "nodes=" n ++ joined nodeText 1 n)
 
+-- a chain of 15, and a node after all of them
+abbrev pub afterAll : List ℕ
+afterAll =
+    bytes "processors=1\nrounds=1\ngraphs=1\nperiod=100\noffset=0\nnodes=16\n"
+    ++ (joined nodeText 1 15 ++ bytes "budget=1\nlevel=1\nafter=1,2,3,4,5,6,7,8,9,10,11,12,13,14,15\n")
+
 abbrev pub chains : ℕ → ℕ → ℕ → List ℕ
 chains a b c = bytes "processors=1\nrounds=1\ngraphs=3\n" ++ (chainText a ++ (chainText b ++ chainText c))
+
+-- the nine keys with the limits of their numbers, of `after` those of each number of its list
+pub record KeyCase : Type 0 where
+  pub name : String
+  pub from : ℕ
+  pub to : ℕ
+
+abbrev pub named : String → ℕ → ℕ → KeyCase
+named s a b = record { name = s; from = a; to = b }
+
+unfoldable pub keyCases : List KeyCase
+keyCases =
+    named "processors" 1 8
+    ∷ named "rounds" 1 64
+    ∷ named "graphs" 1 8
+    ∷ named "period" 1 10000
+    ∷ named "offset" 0 10000
+    ∷ named "nodes" 1 16
+    ∷ named "budget" 1 10000
+    ∷ named "level" 1 4
+    ∷ named "after" 1 15
+    ∷ []
 
 -- document 01's number and line of each refusal
 pub record Numbered : Type 0 where

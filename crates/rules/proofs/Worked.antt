@@ -8,7 +8,8 @@ use Rattle.schedule.proofs.Walking.{onePassWalk, same-walk}
 use Rattle.format.specs.Bytes.{bytes}
 use Rattle.rules.specs.Admission.{admit, admissionOf}
 use Rattle.rules.specs.Answers.{printed, callOf}
-use Rattle.rules.specs.Worked.{AdmissionCase, admissions, replyTo, PrintCase, printCases, CallCase, callCases, lent}
+use Rattle.rules.specs.AnswerNumbers.{answerNumber, answerLineNumber, answerLength}
+use Rattle.rules.specs.Worked.{AdmissionCase, admissions, replyTo, PrintCase, printCases, CallCase, callCases, lent, AnswerCase, told, answerCases}
 use Rattle.rules.proofs.Computing.{answering}
 
 pub admissions-hold : map (λ (c : AdmissionCase). admit (c .table)) admissions ≡ map (λ (c : AdmissionCase). c .gives (c .table)) admissions
@@ -38,3 +39,7 @@ answers-hold = subst Printed same-walk printed-computed
 
 pub calls-hold : Called wholeWalk
 calls-hold = subst Called same-walk called-computed
+
+pub numbers-hold : map (λ (c : AnswerCase). told (c .answer) (answerNumber (c .answer)) (answerLineNumber (c .answer)) (answerLength (c .answer))) answerCases ≡ answerCases
+unfolding answerCases
+numbers-hold = refl

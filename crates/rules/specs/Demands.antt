@@ -17,5 +17,7 @@ pub record TrueReport (bytes : List ℕ) : Type 0 where
   pub ticks : ℕ
   pub figures : List ℕ
   pub text : reportOf bytes ≡ says (reportText round ticks figures)
+  -- and these are the printed ones: no other numbers have that text
+  pub no-others : (r t : ℕ) (fs : List ℕ) → reportOf bytes ≡ says (reportText r t fs) → (r ≡ round) × (t ≡ ticks) × (fs ≡ figures)
   pub many : length figures ≡ length (table .graphs)
   pub least-true : (g : ℕ) → g < length (table .graphs) → LeastTrue (boxOf table) (getD (boxOf table .sinks) g 0) ticks (getD figures g 0)

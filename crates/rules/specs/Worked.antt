@@ -10,6 +10,7 @@ use Rattle.schedule.specs.Walk.{Walked}
 use Rattle.format.specs.declared.Refusal.{Refusal}
 use Rattle.format.specs.declared.Refusal.the-variants.{Misspelled, OutsideLimits, AgainstPredecessorRules, LongHyperperiod, NotLoadable, Backlog, Unsettled, PastTheStop, ShortBuffer}
 use Rattle.format.specs.Bytes.{bytes}
+use Rattle.rules.specs.declared.Answer.{Answer}
 use Rattle.rules.specs.declared.Answer.the-variants.{Text, Refused}
 use Rattle.rules.specs.Admission.{Admission, admitted, refused, admissionOf}
 use Rattle.rules.specs.Answers.{Reply, reportAdmitted, rowAdmitted, Call}
@@ -57,6 +58,12 @@ chain-4-4 = "processors=2\nrounds=64\ngraphs=1\nperiod=4\noffset=0\nnodes=2\nbud
 abbrev pub two-graphs : String
 two-graphs = "processors=1\nrounds=64\ngraphs=2\nperiod=4\noffset=0\nnodes=1\nbudget=1\nlevel=1\nafter=none\nperiod=4\noffset=0\nnodes=1\nbudget=1\nlevel=1\nafter=none\n"
 
+abbrev pub long-hyperperiod : String
+long-hyperperiod = "processors=1\nrounds=1\ngraphs=2\nperiod=10000\noffset=0\nnodes=1\nbudget=1\nlevel=1\nafter=none\nperiod=6667\noffset=0\nnodes=1\nbudget=1\nlevel=1\nafter=none\n"
+
+abbrev pub long-hyperperiod-against-4 : String
+long-hyperperiod-against-4 = "processors=1\nrounds=1\ngraphs=2\nperiod=10000\noffset=0\nnodes=1\nbudget=1\nlevel=1\nafter=none\nperiod=6667\noffset=0\nnodes=1\nbudget=1\nlevel=1\nafter=1\n"
+
 -- one server job of 8 ticks is released in each tick, and runs alone: 17 are pending at 18
 abbrev pub late-at-18 : String
 late-at-18 = "processors=8\nrounds=64\ngraphs=1\nperiod=1\noffset=0\nnodes=1\nbudget=8\nlevel=1\nafter=none\n"
@@ -87,6 +94,9 @@ printCases =
     -- refusals print their number and line
     ∷ prints "" report "answer=2\nline=1\n"
     ∷ prints "processors=1\nrounds=0\n" report "answer=3\nline=2\n"
+    -- what reading refuses comes before a long hyperperiod
+    ∷ prints long-hyperperiod report "answer=5\nline=0\n"
+    ∷ prints long-hyperperiod-against-4 report "answer=4\nline=15\n"
     ∷ prints chain-3-2 report "answer=6\nline=0\n"
     ∷ prints late-at-18 report "answer=7\nline=0\n"
     ∷ prints chain-1-1-in-1-round report "answer=8\nline=0\n"
@@ -149,4 +159,22 @@ callCases =
     ∷ leaves chain-1-1 (row 8) 0 PastTheStop
     ∷ leaves chain-1-1-in-1-round report 50 Unsettled
     ∷ leaves chain-1-1 (row 8) 50 PastTheStop
+    ∷ []
+
+-- an answer's number, line and length
+pub record AnswerCase : Type 0 where
+  pub answer : Answer
+  pub number : ℕ
+  pub line : ℕ
+  pub length : ℕ
+
+abbrev pub told : Answer → ℕ → ℕ → ℕ → AnswerCase
+told a n l k = record { answer = a; number = n; line = l; length = k }
+
+unfoldable pub answerCases : List AnswerCase
+answerCases =
+    told (Text 36) 0 0 36
+    ∷ told (Text 0) 0 0 0
+    ∷ told (Refused (AgainstPredecessorRules 12)) 4 12 0
+    ∷ told (Refused Backlog) 7 0 0
     ∷ []

@@ -5,3 +5,4 @@ pub mod Worked
 pub mod OnePass
 pub mod Walking
 pub mod WorkedWalks
+pub mod OneFigure

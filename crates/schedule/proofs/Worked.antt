@@ -12,7 +12,7 @@ use Rattle.schedule.specs.WellFormed.{rising, orderly, followed, allFoll
 use Rattle.schedule.specs.Servers.{Box, boxOf, whole}
 use Rattle.schedule.specs.State.{State, sameState, stateAt}
 use Rattle.schedule.specs.Links.{dueBy, finishedBy}
-use Rattle.schedule.specs.Walk.{Stop, backlog, Running, stopWith, stopAt, figures, rowAt}
+use Rattle.schedule.specs.Walk.{Stop, settled, backlog, Running, stopWith, stopAt, firstStop, stopped, figures, walked, wholeWalk, rowAt}
 use Rattle.schedule.specs.Described.{alone, chain}
 use Rattle.schedule.specs.WorkedTables as Tables
 use Rattle.schedule.specs.WorkedTables.{LoadCase, loads, twoGraphs, boxOfTwoGraphs}
@@ -56,6 +56,11 @@ figuresOf c = let X : Box = boxOf (c .table) in figures X (whole (X .servers)) (
 pub figures-hold : map figuresOf shortWalks ≡ map (λ (c : WalkCase). c .gives .figures) shortWalks
 unfolding computing shortWalks
 figures-hold = refl
+
+-- a whole walk by the plain definitions: boundary `rounds` settles it
+pub walk-holds : wholeWalk (boxOf (alone 1 2 4 (chain 1 1))) ≡ record { how = settled 2; ticks = 8; figures = 6 ∷ [] }
+unfolding computing walked stopped firstStop
+walk-holds = refl
 
 abbrev rowOf : RowCase → List Running
 rowOf c = let X : Box = boxOf (c .table) in rowAt X (whole (X .servers)) (c .at)

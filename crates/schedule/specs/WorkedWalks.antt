@@ -45,7 +45,9 @@ shortWalks =
 
 unfoldable pub longWalks : List WalkCase
 longWalks =
-    walks (table 1 5 (graph 4 3 (one 2 1) ∷ graph 6 1 (one 1 1) ∷ [])) (settled 1) 15 (2 ∷ 3 ∷ [])
+    -- server job 5 of node 2 is complete at 9, and unlinked: no response comes of it
+    walks (alone 2 5 2 (chain 3 1)) unsettled 10 (5 ∷ [])
+    ∷ walks (table 1 5 (graph 4 3 (one 2 1) ∷ graph 6 1 (one 1 1) ∷ [])) (settled 1) 15 (2 ∷ 3 ∷ [])
     -- node 4 waits for both its predecessors: with one of them it would respond after 9
     ∷ walks (alone 8 5 4 (node 1 1 [] ∷ node 1 1 (1 ∷ []) ∷ node 6 2 (1 ∷ []) ∷ node 1 1 (2 ∷ 3 ∷ []) ∷ [])) (settled 4) 16 (13 ∷ [])
     -- 17 pending server jobs are a backlog, 16 are not; at one instant the boundary comes first

@@ -13,7 +13,7 @@ use Rattle.rules.specs.AnswerNumbers.{answerNumber}
 use Rattle.rules.specs.Admission.{admissionOf}
 use Rattle.rules.specs.Answers.{callOf, reportAdmitted, rowAdmitted}
 use Rattle.schedule.specs.Walk.{Walked, wholeWalk}
-use Rattle.rules.specs.Worked.{node-1-every-4, chain-1-1, chain-1-1-in-1-round, chain-3-2, late-at-18}
+use Rattle.rules.specs.Worked.{node-1-every-4, chain-1-1, chain-1-1-in-1-round, chain-3-2, late-at-18, long-hyperperiod}
 use Rattle.worked.specs.Worked.{period-2¹⁶+4}
 use Rattle.schedule.proofs.Walking.{onePassWalk, same-walk}
 use Rattle.rules.proofs.Computing.{answering}
@@ -33,7 +33,7 @@ questions =
     ∷ report [] enough
     ∷ report (bytes period-2¹⁶+4) enough
     ∷ report (bytes "processors=1\nrounds=1\ngraphs=1\nperiod=4\noffset=0\nnodes=1\nbudget=1\nlevel=1\nafter=1\n") enough
-    ∷ report (bytes "processors=1\nrounds=1\ngraphs=2\nperiod=10000\noffset=0\nnodes=1\nbudget=1\nlevel=1\nafter=none\nperiod=6667\noffset=0\nnodes=1\nbudget=1\nlevel=1\nafter=none\n") enough
+    ∷ report (bytes long-hyperperiod) enough
     ∷ report (bytes chain-3-2) enough
     ∷ report (bytes late-at-18) enough
     ∷ report (bytes chain-1-1-in-1-round) enough
