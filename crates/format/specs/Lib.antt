@@ -3,4 +3,4 @@ pub mod Refusals
 pub mod Keys
 pub mod Spelling
 pub mod Reading
-pub mod Worked
+pub mod Cases

@@ -1,5 +1,5 @@
 pub mod Computing
-pub mod Worked
+pub mod Cases
 pub mod Outcomes
 pub mod ReadWellFormed
 pub mod Printed

@@ -2,4 +2,4 @@ pub mod Admission
 pub mod Answers
 pub mod AnswerNumbers
 pub mod Demands
-pub mod Worked
+pub mod Cases

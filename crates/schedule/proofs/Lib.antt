@@ -1,8 +1,8 @@
 pub mod Tests
 pub mod Cells
 pub mod Computing
-pub mod Worked
+pub mod Cases
 pub mod OnePass
 pub mod Walking
-pub mod WorkedWalks
+pub mod CasesInOnePass
 pub mod OneFigure

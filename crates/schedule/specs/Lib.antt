@@ -9,5 +9,5 @@ pub mod Walk
 pub mod WellFormed
 pub mod LeastTrue
 pub mod Described
-pub mod WorkedTables
-pub mod WorkedWalks
+pub mod TableCases
+pub mod WalkCases

@@ -13,7 +13,7 @@ use Rattle.rules.specs.AnswerNumbers.{answerNumber}
 use Rattle.rules.specs.Admission.{admissionOf}
 use Rattle.rules.specs.Answers.{callOf, reportAdmitted, rowAdmitted}
 use Rattle.schedule.specs.Walk.{Walked, wholeWalk}
-use Rattle.rules.specs.Worked.{node-1-every-4, chain-1-1, chain-1-1-in-1-round, chain-3-2, late-at-18, long-hyperperiod}
+use Rattle.rules.specs.Cases.{node-1-every-4, chain-1-1, chain-1-1-in-1-round, chain-3-2, late-at-18, long-hyperperiod}
 use Rattle.worked.specs.Worked.{period-2¹⁶+4}
 use Rattle.schedule.proofs.Walking.{onePassWalk, same-walk}
 use Rattle.rules.proofs.Computing.{answering}

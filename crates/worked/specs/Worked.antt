@@ -13,7 +13,7 @@ use Rattle.schedule.specs.Links.{links, dueBy}
 use Rattle.schedule.specs.Walk.{Walked, unsettled}
 use Rattle.rules.specs.Admission.{Admission, admitted, refused, admissionOf}
 use Rattle.rules.specs.Answers.{printed, reportAdmitted, rowAdmitted}
-use Rattle.rules.specs.Worked.{node-1-every-4, chain-1-1, chain-1-1-in-1-round, chain-3-2, chain-4-4, two-graphs}
+use Rattle.rules.specs.Cases.{node-1-every-4, chain-1-1, chain-1-1-in-1-round, chain-3-2, chain-4-4, two-graphs}
 
 -- what is said of a table
 pub data Statement : Type 0 where

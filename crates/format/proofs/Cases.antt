@@ -11,10 +11,11 @@ use Rattle.format.specs.declared.Refusal.{Refusal}
 use Rattle.format.specs.declared.Refusal.the-variants.{TooLong, Misspelled, OutsideLimits}
 use Rattle.format.specs.Bytes.{bytes, decimal}
 use Rattle.format.specs.Keys.{Key, key, keys}
+use Rattle.format.specs.Spelling.{number}
 use Rattle.format.specs.Reading.{Outcome, done, Place, readOf}
 use Rattle.format.specs.Refusals.{numberOf, lineOf}
-use Rattle.format.specs.Worked as Worked
-use Rattle.format.specs.Worked.{allLines, lines, changed, theTable, refusalOf, LineCase, NodesCase, threeNodes, afterAll, chains, KeyCase, Numbered, numbered}
+use Rattle.format.specs.Cases as Cases
+use Rattle.format.specs.Cases.{allLines, lines, changed, theTable, refusalOf, LineCase, NodesCase, threeNodes, afterAll, chains, NumberCase, KeyCase, Numbered, numbered}
 use Rattle.format.proofs.Computing.{reading}
 
 abbrev given : LineCase → Option Refusal
@@ -23,24 +24,24 @@ given c = refusalOf (readOf (changed (c .line) (bytes (c .text))))
 abbrev Hold : List LineCase → Type 0
 Hold cases = map given cases ≡ map (λ (c : LineCase). c .gives) cases
 
-pub spellings-hold : Hold Worked.spellings
-unfolding reading lines Worked.spellings
+pub spellings-hold : Hold Cases.spellings
+unfolding reading lines Cases.spellings
 spellings-hold = refl
 
-pub limits-hold : Hold Worked.limits
-unfolding reading lines Worked.limits
+pub limits-hold : Hold Cases.limits
+unfolding reading lines Cases.limits
 limits-hold = refl
 
-pub predecessors-hold : Hold Worked.predecessors
-unfolding reading lines Worked.predecessors
+pub predecessors-hold : Hold Cases.predecessors
+unfolding reading lines Cases.predecessors
 predecessors-hold = refl
 
-pub orders-hold : Hold Worked.orders
-unfolding reading lines Worked.orders
+pub orders-hold : Hold Cases.orders
+unfolding reading lines Cases.orders
 orders-hold = refl
 
-pub successors-hold : map (λ (c : NodesCase). refusalOf (readOf (threeNodes (c .second) (c .third)))) Worked.successors ≡ map (λ (c : NodesCase). c .gives) Worked.successors
-unfolding reading Worked.successors
+pub successors-hold : map (λ (c : NodesCase). refusalOf (readOf (threeNodes (c .second) (c .third)))) Cases.successors ≡ map (λ (c : NodesCase). c .gives) Cases.successors
+unfolding reading Cases.successors
 successors-hold = refl
 
 -- the whole table, read to its end
@@ -53,7 +54,7 @@ pub absent-hold : map (λ (l : ℕ). refusalOf (readOf (changed l []))) (upTo al
 unfolding reading lines
 absent-hold = refl
 
-pub unended-hold : map (λ (l : ℕ). refusalOf (readOf (changed l (Worked.lineOf l)))) (upTo allLines) ≡ map (λ (l : ℕ). some (Misspelled l)) (upTo allLines)
+pub unended-hold : map (λ (l : ℕ). refusalOf (readOf (changed l (Cases.lineOf l)))) (upTo allLines) ≡ map (λ (l : ℕ). some (Misspelled l)) (upTo allLines)
 unfolding reading lines
 unended-hold = refl
 
@@ -67,8 +68,12 @@ pub after-all-holds : refusalOf (readOf afterAll) ≡ none
 unfolding reading
 after-all-holds = refl
 
-pub keys-hold : keys ≡ map (λ (c : KeyCase). key (c .name) (record { from = c .from; to = c .to })) Worked.keyCases
-unfolding reading Worked.keyCases
+pub numbers-hold : map (λ (c : NumberCase). number (bytes (c .text))) Cases.numberCases ≡ map (λ (c : NumberCase). c .gives) Cases.numberCases
+unfolding reading Cases.numberCases
+numbers-hold = refl
+
+pub keys-hold : keys ≡ map (λ (c : KeyCase). key (c .name) (record { from = c .from; to = c .to })) Cases.keyCases
+unfolding reading Cases.keyCases
 keys-hold = refl
 
 -- an empty table lacks its first line; 4,096 bytes are read, of one more nothing is
@@ -76,8 +81,8 @@ pub bytes-hold : map (λ (n : ℕ). refusalOf (readOf (replicate n 0))) (0 ∷ 4
 unfolding reading
 bytes-hold = refl
 
-pub refusals-hold : map (λ (c : Numbered). numbered (c .refusal) (numberOf (c .refusal)) (lineOf (c .refusal))) Worked.refusals ≡ Worked.refusals
-unfolding Worked.refusals
+pub refusals-hold : map (λ (c : Numbered). numbered (c .refusal) (numberOf (c .refusal)) (lineOf (c .refusal))) Cases.refusals ≡ Cases.refusals
+unfolding Cases.refusals
 refusals-hold = refl
 
 pub decimals-hold : map decimal (0 ∷ 7 ∷ 10 ∷ 905 ∷ 20000 ∷ []) ≡ bytes "0" ∷ bytes "7" ∷ bytes "10" ∷ bytes "905" ∷ bytes "20000" ∷ []

@@ -3,7 +3,7 @@ use mathlib.Core.Path.{_≡_, refl, subst}
 use mathlib.Core.List.{List, _++_, map}
 use Rattle.schedule.specs.Servers.{Box, boxOf}
 use Rattle.schedule.specs.Walk.{Walked, wholeWalk}
-use Rattle.schedule.specs.WorkedWalks.{WalkCase, shortWalks, longWalks}
+use Rattle.schedule.specs.WalkCases.{WalkCase, shortWalks, longWalks}
 use Rattle.schedule.proofs.Walking.{walking, onePassWalk, same-walk}
 
 abbrev Hold : (Box → Walked) → List WalkCase → Type 0

@@ -1,5 +1,5 @@
 -- Worked cases of reading: a table of 18 lines, and what becomes of it when one of its lines is another text. They are computed in
--- proofs/Worked.antt.
+-- proofs/Cases.antt.
 use mathlib.Core.Bool.{cond}
 use mathlib.Core.List.{List, [], _∷_, _++_}
 use mathlib.Core.Option.{Option, none, some}
@@ -13,6 +13,7 @@ use Rattle.schedule.specs.Described as Described
 use Rattle.format.specs.declared.Refusal.{Refusal}
 use Rattle.format.specs.declared.Refusal.the-variants.{TooLong, Misspelled, OutsideLimits, AgainstPredecessorRules, LongHyperperiod, NotLoadable, Backlog, Unsettled, PastTheStop, ShortBuffer}
 use Rattle.format.specs.Bytes.{bytes, lineFeed, decimal}
+use Rattle.format.specs.Spelling.{Scan, read, wrong}
 use Rattle.format.specs.Reading.{Outcome, refused, done}
 
 -- a chain of two nodes, and a graph of one node
@@ -241,6 +242,29 @@ afterAll =
 
 abbrev pub chains : ℕ → ℕ → ℕ → List ℕ
 chains a b c = bytes "processors=1\nrounds=1\ngraphs=3\n" ++ (chainText a ++ (chainText b ++ chainText c))
+
+-- a number, and what is left of a text after it; or where it goes wrong
+pub record NumberCase : Type 0 where
+  pub text : String
+  pub gives : Scan ℕ
+
+abbrev pub spelled : String → ℕ → String → NumberCase
+spelled s v rest = record { text = s; gives = read v (bytes rest) }
+
+abbrev pub unspelled : String → NumberCase
+unspelled s = record { text = s; gives = wrong (bytes s) }
+
+unfoldable pub numberCases : List NumberCase
+numberCases =
+    spelled "0" 0 ""
+    ∷ spelled "905" 905 ""
+    ∷ spelled "905," 905 ","
+    ∷ spelled "05" 0 "5"
+    ∷ spelled "18446744073709551616" 18446744073709551616 ""
+    ∷ unspelled ""
+    ∷ unspelled "x"
+    ∷ unspelled "-1"
+    ∷ []
 
 -- the nine keys with the limits of their numbers, of `after` those of each number of its list
 pub record KeyCase : Type 0 where

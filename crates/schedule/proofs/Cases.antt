@@ -1,4 +1,4 @@
--- The worked cases hold, by computation. (Walks: proofs/WorkedWalks.antt.)
+-- The worked cases hold, by computation. (Walks: proofs/CasesInOnePass.antt.)
 use mathlib.Core.Path.{_≡_, refl}
 use mathlib.Core.Bool.{Bool, true, false, not}
 use mathlib.Core.List.{List, [], _∷_, _++_, map}
@@ -14,9 +14,9 @@ use Rattle.schedule.specs.State.{State, sameState, stateAt}
 use Rattle.schedule.specs.Links.{dueBy, finishedBy}
 use Rattle.schedule.specs.Walk.{Stop, settled, backlog, Running, stopWith, stopAt, firstStop, stopped, figures, walked, wholeWalk, rowAt}
 use Rattle.schedule.specs.Described.{alone, chain}
-use Rattle.schedule.specs.WorkedTables as Tables
-use Rattle.schedule.specs.WorkedTables.{LoadCase, loads, twoGraphs, boxOfTwoGraphs}
-use Rattle.schedule.specs.WorkedWalks.{WalkCase, shortWalks, RowCase, rowCases, StateCase, stateCases, someState, otherStates, never, needsTwo, ticksOf, linksOf, JobCase, job, jobCases, needs}
+use Rattle.schedule.specs.TableCases as Tables
+use Rattle.schedule.specs.TableCases.{LoadCase, loads, twoGraphs, boxOfTwoGraphs}
+use Rattle.schedule.specs.WalkCases.{WalkCase, shortWalks, RowCase, rowCases, StateCase, stateCases, someState, otherStates, never, needsTwo, ticksOf, linksOf, JobCase, job, jobCases, needs}
 use Rattle.schedule.proofs.Computing.{computing}
 
 pub limits-hold : T (all? Tables.sided Tables.limits)

@@ -9,7 +9,7 @@ use Rattle.format.specs.Bytes.{bytes}
 use Rattle.rules.specs.Admission.{admit, admissionOf}
 use Rattle.rules.specs.Answers.{printed, callOf}
 use Rattle.rules.specs.AnswerNumbers.{answerNumber, answerLineNumber, answerLength}
-use Rattle.rules.specs.Worked.{AdmissionCase, admissions, replyTo, PrintCase, printCases, CallCase, callCases, lent, AnswerCase, told, answerCases}
+use Rattle.rules.specs.Cases.{AdmissionCase, admissions, replyTo, PrintCase, printCases, CallCase, callCases, lent, AnswerCase, told, answerCases}
 use Rattle.rules.proofs.Computing.{answering}
 
 pub admissions-hold : map (λ (c : AdmissionCase). admit (c .table)) admissions ≡ map (λ (c : AdmissionCase). c .gives (c .table)) admissions

@@ -1,5 +1,5 @@
 -- Worked cases of the schedule: where walks stop, rows, states and links. Each sentence of the rules has a case that another reading of it
--- would change. They are computed in proofs/Worked.antt.
+-- would change. They are computed in proofs/Cases.antt.
 use mathlib.Core.Bool.{Bool, true, false}
 use mathlib.Core.List.{List, [], _∷_}
 use mathlib.Core.Option.{Option, none, some}
@@ -41,6 +41,7 @@ shortWalks =
     ∷ walks (table 1 5 (graph 8 0 (one 3 1) ∷ graph 4 0 (one 1 1) ∷ [])) (settled 1) 8 (4 ∷ 1 ∷ [])
     -- boundary 0 is the largest offset
     ∷ walks (table 1 5 (graph 4 0 (one 2 1) ∷ graph 8 1 (one 3 1) ∷ [])) (settled 1) 9 (2 ∷ 6 ∷ [])
+    ∷ walks (table 1 5 (graph 4 5 (one 1 1) ∷ [])) (settled 1) 9 (1 ∷ [])
     ∷ []
 
 unfoldable pub longWalks : List WalkCase
@@ -50,9 +51,13 @@ longWalks =
     ∷ walks (table 1 5 (graph 4 3 (one 2 1) ∷ graph 6 1 (one 1 1) ∷ [])) (settled 1) 15 (2 ∷ 3 ∷ [])
     -- node 4 waits for both its predecessors: with one of them it would respond after 9
     ∷ walks (alone 8 5 4 (node 1 1 [] ∷ node 1 1 (1 ∷ []) ∷ node 6 2 (1 ∷ []) ∷ node 1 1 (2 ∷ 3 ∷ []) ∷ [])) (settled 4) 16 (13 ∷ [])
+    -- graph 2 responds after 2, 1, 3, 1: the largest is its figure, and not the last
+    ∷ walks (table 1 5 (graph 8 0 (one 5 1) ∷ graph 4 4 (one 1 1) ∷ [])) (settled 2) 20 (6 ∷ 3 ∷ [])
     -- 17 pending server jobs are a backlog, 16 are not; at one instant the boundary comes first
     ∷ walks (alone 1 17 1 (one 20 1)) backlog 16 (0 ∷ [])
     ∷ walks (alone 1 16 1 (one 20 1)) unsettled 16 (0 ∷ [])
+    -- of any server, and not of the sinks alone
+    ∷ walks (alone 2 17 1 (chain 20 1)) backlog 16 (0 ∷ [])
     ∷ []
 
 -- the running server jobs at an instant, in priority order: graph, node, server job, invocation
@@ -88,6 +93,8 @@ rowCases =
     ∷ row (alone 3 5 1 (one 3 3)) 2 (run 1 1 1 1 ∷ run 1 1 2 2 ∷ run 1 1 3 3 ∷ [])
     ∷ row (alone 3 5 1 (one 3 2)) 2 (run 1 1 1 1 ∷ run 1 1 2 2 ∷ [])
     ∷ row (alone 3 5 1 (one 3 2)) 3 (run 1 1 2 2 ∷ run 1 1 3 3 ∷ [])
+    -- a deadline counts from the offset: 6 for graph 2, 7 for graph 1
+    ∷ row (table 1 5 (graph 4 3 (one 1 1) ∷ graph 6 0 (one 4 1) ∷ [])) 3 (run 2 1 1 1 ∷ [])
     -- no server job runs before its release
     ∷ row (table 1 5 (graph 4 3 (one 2 1) ∷ graph 6 1 (one 1 1) ∷ [])) 0 []
     ∷ row (table 1 5 (graph 4 3 (one 2 1) ∷ graph 6 1 (one 1 1) ∷ [])) 1 (run 2 1 1 1 ∷ [])
@@ -142,19 +149,20 @@ otherStates =
     ∷ but (2 ∷ []) (of 2 1 (unlinked 2 ∷ linked 4 1 ∷ linked 4 1 ∷ []))
     ∷ []
 
--- Every tick one invocation of one node; each server job is complete after a tick, and its job needs 2: none finishes. After the ticks
--- before t all t server jobs are complete, and linked in turn. (A walk of a table to 65 unfinished invocations is too long to compute.)
+-- Every tick an invocation of graph 2; each server job is complete after a tick, and its job needs 2: none finishes. After the ticks before
+-- t all t server jobs are complete, and linked in turn. Graph 1 has none yet. (A walk of a table to 65 unfinished invocations is too long to
+-- compute.)
 abbrev pub never : Table
-never = alone 1 100 1 (one 1 1)
+never = table 1 1 (graph 1 100 (one 1 1) ∷ graph 1 0 (one 1 1) ∷ [])
 
 abbrev pub needsTwo : ℕ → ℕ → ℕ
 needsTwo i j = 2
 
 abbrev pub ticksOf : ℕ → List (List ℕ)
-ticksOf t = tab (λ (k : ℕ). 1) 1 t ∷ []
+ticksOf t = [] ∷ tab (λ (k : ℕ). 1) 1 t ∷ []
 
 abbrev pub linksOf : ℕ → List (List ℕ)
-linksOf t = upTo t ∷ []
+linksOf t = [] ∷ upTo t ∷ []
 
 -- whether job j of node v of the first graph is released by t, and whether it is finished by t
 pub record JobCase : Type 0 where

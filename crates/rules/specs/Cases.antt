@@ -1,4 +1,4 @@
--- Worked cases of admission, of answers and of calls with a lent buffer. They are computed in proofs/Worked.antt.
+-- Worked cases of admission, of answers and of calls with a lent buffer. They are computed in proofs/Cases.antt.
 use mathlib.Core.List.{List, [], _∷_, _++_}
 use Prim.Native.Nat.{ℕ}
 use Prim.Native.String.{String}

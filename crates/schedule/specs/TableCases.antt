@@ -1,5 +1,5 @@
 -- Worked cases of tables: both sides of every limit, tables that are well-formed and such that are not, hyperperiods and loads, and a box.
--- They are computed in proofs/Worked.antt.
+-- They are computed in proofs/Cases.antt.
 use mathlib.Core.Bool.{Bool, true, false, cond, not, _&&_}
 use mathlib.Core.List.{List, [], _∷_, _++_}
 use Prim.Native.Nat.{ℕ, _-_}
