@@ -1,27 +1,10 @@
 -- What antt needs opened to compute an answer: every definition between the bytes and the text, with the walk in one pass.
-use mathlib.Core.Path.{_≡_, fun-ext}
-use Rattle.rules.specs.Table as Table
-use Rattle.rules.specs.Servers.{Box, whole, ofNodes, ofGraphs, sinksOf}
-use Rattle.rules.specs.ServerJobs.{releaseOf, released, releasedBefore, priorityOf, before, complete, pending, ready, readyJobs, rank, runs, tick, used}
-use Rattle.rules.specs.Links.{finished, dueAfter, due, linked, linkNow, link, links, dueBy, finishedBy}
-use Rattle.rules.specs.State.{finishedCount, behindOf, pendingJob, pendingJobs, nodeState, phase, state}
-use Rattle.rules.specs.Walk.{Walked, crowded, overdue, backlogged, boundary, atBoundary, roundAt, stopWith, responseAt, finishing, runningAt, rowAt}
-use Rattle.rules.specs.WellFormed.{rising, orderly, followed, allFollowed}
-use Rattle.rules.specs.Bytes.{decimalBy, decimal}
-use Rattle.rules.specs.Keys.{keys}
-use Rattle.rules.specs.Spelling.{text, digits, number, numbersBy, numbers, list}
-use Rattle.rules.specs.Reading.{numberLine, afterLine, node, nodesFrom, graphNodes, graph, graphsFrom, table, readOf, admit, admissionOf}
-use Rattle.rules.specs.Answers.{answerLine, responseLines, reportText, rowText, printed, rowOn, fitted, left, callOf, wholeWalk}
-use Rattle.rules.proofs.OnePass.{nextFigures, nextLast, passFrom, walkedInOnePass, one-pass}
+use Rattle.schedule.proofs.Walking.{walking}
+use Rattle.format.proofs.Computing.{reading}
+use Rattle.rules.specs.Admission.{admit, admissionOf}
+use Rattle.rules.specs.Answers.{answerLine, responseLines, reportText, rowText, printed, rowOn, fitted, left, callOf}
 
 -- opened by name where a test is computed
 unfoldable pub answering : Unit {0}
-unfolding Table.euclid Table.gcd Table.lcm Table.lcmFrom Table.hyperperiod Table.largestOffset Table.load Table.loadable whole ofNodes ofGraphs sinksOf releaseOf released releasedBefore priorityOf before complete pending ready readyJobs rank runs tick used finished dueAfter due linked linkNow link links dueBy finishedBy finishedCount behindOf pendingJob pendingJobs nodeState phase state crowded overdue backlogged boundary atBoundary roundAt stopWith responseAt finishing runningAt rowAt rising orderly followed allFollowed decimalBy decimal keys text digits number numbersBy numbers list numberLine afterLine node nodesFrom graphNodes graph graphsFrom table readOf admit admissionOf answerLine responseLines reportText rowText printed rowOn fitted left callOf nextFigures nextLast passFrom walkedInOnePass
+unfolding walking reading admit admissionOf answerLine responseLines reportText rowText printed rowOn fitted left callOf
 answering = tt
-
-abbrev pub onePassWalk : Box → Walked
-onePassWalk X = walkedInOnePass X (whole (X .servers))
-
--- the walk in one pass is that of the definitions
-pub same-walk : onePassWalk ≡ wholeWalk
-same-walk = fun-ext (λ (X : Box). one-pass X (whole (X .servers)))

@@ -4,19 +4,21 @@ use mathlib.Core.List.{List}
 use Prim.Native.Nat.{ℕ}
 use native.Mathlib.Omega.{arith}
 use lib.ListN.{length-map}
-use Rattle.rules.specs.declared.Refusal.{Refusal}
-use Rattle.rules.specs.declared.Refusal.the-variants.{TooLong, Misspelled, OutsideLimits, AgainstPredecessorRules, LongHyperperiod, NotLoadable}
-use Rattle.rules.specs.declared.Refusal.the-variants.{Backlog, Unsettled, PastTheStop, ShortBuffer}
-use Rattle.rules.specs.Refusals.{numberOf, answerNumber}
-use Rattle.rules.specs.Table.{Table}
-use Rattle.rules.specs.Servers.{boxOf}
-use Rattle.rules.specs.Walk.{Stop, settled, unsettled, backlog, figures, walked}
-use Rattle.rules.specs.Reading.{Admission, admitted, refused, admissionOf}
-use Rattle.rules.specs.Answers.{Reply, says, refuses, reportOn, reportAdmitted, wholeWalk, reportOf, fitted, left, callOf}
+use Rattle.format.specs.declared.Refusal.{Refusal}
+use Rattle.format.specs.declared.Refusal.the-variants.{TooLong, Misspelled, OutsideLimits, AgainstPredecessorRules, LongHyperperiod, NotLoadable}
+use Rattle.format.specs.declared.Refusal.the-variants.{Backlog, Unsettled, PastTheStop, ShortBuffer}
+use Rattle.format.specs.Refusals.{numberOf}
+use Rattle.rules.specs.AnswerNumbers.{answerNumber}
+use Rattle.schedule.specs.Table.{Table}
+use Rattle.schedule.specs.Servers.{boxOf}
+use Rattle.schedule.specs.Walk.{Stop, settled, unsettled, backlog, figures, walked, wholeWalk}
+use Rattle.rules.specs.Admission.{Admission, admitted, refused, admissionOf}
+use Rattle.rules.specs.Answers.{Reply, says, refuses, reportText, reportOn, reportAdmitted, reportOf, fitted, left, callOf}
 use Rattle.rules.specs.Demands.{TrueReport}
+use Rattle.rules.proofs.Printed.{report-text-tells}
 use Rattle.rules.proofs.ReadWellFormed.{admitted-well-formed}
-use Rattle.rules.proofs.TableBox.{length-sinks}
-use Rattle.rules.proofs.LeastTrue.{figures-are-least-true}
+use Rattle.theorems.proofs.TableBox.{length-sinks}
+use Rattle.theorems.proofs.LeastTrue.{figures-are-least-true}
 
 -- no refusal has the number 0
 number-some : (r : Refusal) → numberOf r ≡ 0 → ⊥
@@ -37,6 +39,11 @@ module _ (bytes : List ℕ) where
   unfolding reportOf
   report-is U e how h = rw (e, h)
 
+  -- the numbers of a text are told by it
+  numbers-told : (k l t u : ℕ) (fs gs : List ℕ) → reportOf bytes ≡ says (reportText k t fs) → reportOf bytes ≡ says (reportText l u gs)
+      → (l ≡ k) × (u ≡ t) × (gs ≡ fs)
+  numbers-told k l t u fs gs p q = report-text-tells l k u t gs fs (let e : reportText l u gs ≡ reportText k t fs = cc in e)
+
   settled-report : (U : Table) (k : ℕ) → admissionOf bytes ≡ admitted U → (wholeWalk (boxOf U)) .how ≡ settled k → TrueReport bytes
   unfolding walked figures
   settled-report U k e h =
@@ -48,6 +55,7 @@ module _ (bytes : List ℕ) where
         ticks = w .ticks;
         figures = w .figures;
         text = report-is U e (settled k) h;
+        no-others = λ r t fs q. numbers-told k r (w .ticks) t (w .figures) fs (report-is U e (settled k) h) q;
         many = length-map (boxOf U .sinks) _ ∙ length-sinks 0 (U .graphs);
         least-true = λ g l. figures-are-least-true U ((admitted-well-formed bytes U e) .0) k h g l;
       }

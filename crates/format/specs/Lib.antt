@@ -1,0 +1,6 @@
+pub mod Bytes
+pub mod Refusals
+pub mod Keys
+pub mod Spelling
+pub mod Reading
+pub mod Cases

@@ -1,0 +1,180 @@
+-- Worked cases of admission, of answers and of calls with a lent buffer. They are computed in proofs/Cases.antt.
+use mathlib.Core.List.{List, [], _∷_, _++_}
+use Prim.Native.Nat.{ℕ}
+use Prim.Native.String.{String}
+use lib.ListN.{length, replicate}
+use Rattle.schedule.specs.Table.{Table}
+use Rattle.schedule.specs.Described.{table, graph, alone, one, chain}
+use Rattle.schedule.specs.Servers.{Box}
+use Rattle.schedule.specs.Walk.{Walked}
+use Rattle.format.specs.declared.Refusal.{Refusal}
+use Rattle.format.specs.declared.Refusal.the-variants.{Misspelled, OutsideLimits, AgainstPredecessorRules, LongHyperperiod, NotLoadable, Backlog, Unsettled, PastTheStop, ShortBuffer}
+use Rattle.format.specs.Bytes.{bytes}
+use Rattle.rules.specs.declared.Answer.{Answer}
+use Rattle.rules.specs.declared.Answer.the-variants.{Text, Refused}
+use Rattle.rules.specs.Admission.{Admission, admitted, refused, admissionOf}
+use Rattle.rules.specs.Answers.{Reply, reportAdmitted, rowAdmitted, Call}
+
+-- admission: H at its limit and past it, the load full and past it, and 5 before 6
+pub record AdmissionCase : Type 0 where
+  pub table : Table
+  pub gives : Table → Admission
+
+abbrev pub admits : Table → AdmissionCase
+admits T = record { table = T; gives = admitted }
+
+abbrev pub refuses : Table → Refusal → AdmissionCase
+refuses T r = record { table = T; gives = λ (X : Table). refused r }
+
+abbrev pub twoPeriods : ℕ → ℕ → ℕ → Table
+twoPeriods p q budget = table 1 1 (graph p 0 (one budget 1) ∷ graph q 0 (one 1 1) ∷ [])
+
+unfoldable pub admissions : List AdmissionCase
+admissions =
+    admits (twoPeriods 4000 10000 1)
+    ∷ refuses (twoPeriods 177 113 1) LongHyperperiod
+    ∷ refuses (twoPeriods 10000 6667 1) LongHyperperiod
+    ∷ admits (alone 1 1 4 (chain 2 2))
+    ∷ refuses (alone 1 1 4 (chain 3 2)) NotLoadable
+    ∷ refuses (twoPeriods 177 113 177) LongHyperperiod
+    ∷ []
+
+-- tables of one graph as text: processors, rounds, period, and the nodes' lines
+abbrev pub node-1-every-4 : String
+node-1-every-4 = "processors=1\nrounds=64\ngraphs=1\nperiod=4\noffset=0\nnodes=1\nbudget=1\nlevel=1\nafter=none\n"
+
+abbrev pub chain-1-1 : String
+chain-1-1 = "processors=1\nrounds=64\ngraphs=1\nperiod=4\noffset=0\nnodes=2\nbudget=1\nlevel=1\nafter=none\nbudget=1\nlevel=1\nafter=1\n"
+
+abbrev pub chain-1-1-in-1-round : String
+chain-1-1-in-1-round = "processors=1\nrounds=1\ngraphs=1\nperiod=4\noffset=0\nnodes=2\nbudget=1\nlevel=1\nafter=none\nbudget=1\nlevel=1\nafter=1\n"
+
+abbrev pub chain-3-2 : String
+chain-3-2 = "processors=1\nrounds=64\ngraphs=1\nperiod=4\noffset=0\nnodes=2\nbudget=3\nlevel=1\nafter=none\nbudget=2\nlevel=1\nafter=1\n"
+
+abbrev pub chain-4-4 : String
+chain-4-4 = "processors=2\nrounds=64\ngraphs=1\nperiod=4\noffset=0\nnodes=2\nbudget=4\nlevel=1\nafter=none\nbudget=4\nlevel=1\nafter=1\n"
+
+abbrev pub two-graphs : String
+two-graphs = "processors=1\nrounds=64\ngraphs=2\nperiod=4\noffset=0\nnodes=1\nbudget=1\nlevel=1\nafter=none\nperiod=4\noffset=0\nnodes=1\nbudget=1\nlevel=1\nafter=none\n"
+
+abbrev pub long-hyperperiod : String
+long-hyperperiod = "processors=1\nrounds=1\ngraphs=2\nperiod=10000\noffset=0\nnodes=1\nbudget=1\nlevel=1\nafter=none\nperiod=6667\noffset=0\nnodes=1\nbudget=1\nlevel=1\nafter=none\n"
+
+abbrev pub long-hyperperiod-against-4 : String
+long-hyperperiod-against-4 = "processors=1\nrounds=1\ngraphs=2\nperiod=10000\noffset=0\nnodes=1\nbudget=1\nlevel=1\nafter=none\nperiod=6667\noffset=0\nnodes=1\nbudget=1\nlevel=1\nafter=1\n"
+
+-- one server job of 8 ticks is released in each tick, and runs alone: 17 are pending at 18
+abbrev pub late-at-18 : String
+late-at-18 = "processors=8\nrounds=64\ngraphs=1\nperiod=1\noffset=0\nnodes=1\nbudget=8\nlevel=1\nafter=none\n"
+
+-- what is asked of a table
+pub data Asked : Type 0 where
+  report : Asked
+  row : ℕ → Asked
+
+module _ (walk : Box → Walked) where
+  abbrev pub replyTo : Asked → Admission → Reply
+  replyTo report a = reportAdmitted walk a
+  replyTo (row t) a = rowAdmitted walk t a
+
+pub record PrintCase : Type 0 where
+  pub table : String
+  pub asked : Asked
+  pub prints : String
+
+abbrev pub prints : String → Asked → String → PrintCase
+prints T q s = record { table = T; asked = q; prints = s }
+
+unfoldable pub printCases : List PrintCase
+printCases =
+    prints node-1-every-4 report "answer=0\nround=1\nticks=4\nresponse=1\n"
+    ∷ prints chain-1-1 report "answer=0\nround=2\nticks=8\nresponse=6\n"
+    ∷ prints two-graphs report "answer=0\nround=1\nticks=4\nresponse=1\nresponse=2\n"
+    -- refusals print their number and line
+    ∷ prints "" report "answer=2\nline=1\n"
+    ∷ prints "processors=1\nrounds=0\n" report "answer=3\nline=2\n"
+    -- what reading refuses comes before a long hyperperiod
+    ∷ prints long-hyperperiod report "answer=5\nline=0\n"
+    ∷ prints long-hyperperiod-against-4 report "answer=4\nline=15\n"
+    ∷ prints chain-3-2 report "answer=6\nline=0\n"
+    ∷ prints late-at-18 report "answer=7\nline=0\n"
+    ∷ prints chain-1-1-in-1-round report "answer=8\nline=0\n"
+    -- rows: a line for each running server job; none in an idle tick
+    ∷ prints chain-1-1 (row 1) "run=1,2,1,0\n"
+    ∷ prints chain-1-1 (row 5) "run=1,2,2,1\n"
+    ∷ prints chain-1-1 (row 2) ""
+    ∷ prints chain-4-4 (row 4) "run=1,1,2,2\nrun=1,2,2,1\n"
+    -- at or past the stop
+    ∷ prints chain-1-1 (row 7) ""
+    ∷ prints chain-1-1 (row 8) "answer=9\nline=0\n"
+    ∷ prints chain-1-1 (row 9) "answer=9\nline=0\n"
+    -- before the stop also where the report gives 7 or 8; the table's own refusals come first
+    ∷ prints chain-1-1-in-1-round (row 0) "run=1,1,1,1\n"
+    ∷ prints chain-1-1-in-1-round (row 4) "answer=9\nline=0\n"
+    ∷ prints late-at-18 (row 17) "run=1,1,3,3\n"
+    ∷ prints late-at-18 (row 18) "answer=9\nline=0\n"
+    ∷ prints chain-3-2 (row 9) "answer=6\nline=0\n"
+    ∷ []
+
+-- calls with a lent buffer, whose bytes are all 255
+pub record CallCase : Type 0 where
+  pub table : String
+  pub asked : Asked
+  pub room : ℕ
+  pub gives : Call
+
+abbrev pub lent : ℕ → List ℕ
+lent n = replicate n 255
+
+-- the text, then `more` bytes as they were
+abbrev pub writes : String → Asked → String → ℕ → CallCase
+writes T q s more =
+    let n : ℕ = length (bytes s) in
+    record { table = T; asked = q; room = length (bytes s ++ lent more); gives = record { answer = Text n; buffer = bytes s ++ lent more } }
+
+-- a refusal, and the buffer as it was
+abbrev pub leaves : String → Asked → ℕ → Refusal → CallCase
+leaves T q n r = record { table = T; asked = q; room = n; gives = record { answer = Refused r; buffer = lent n } }
+
+unfoldable pub callCases : List CallCase
+callCases =
+    -- the text is 36 bytes long
+    leaves node-1-every-4 report 0 ShortBuffer
+    ∷ leaves node-1-every-4 report 35 ShortBuffer
+    ∷ writes node-1-every-4 report "answer=0\nround=1\nticks=4\nresponse=1\n" 0
+    ∷ writes node-1-every-4 report "answer=0\nround=1\nticks=4\nresponse=1\n" 1
+    ∷ writes node-1-every-4 report "answer=0\nround=1\nticks=4\nresponse=1\n" 9
+    -- two lines of 12 bytes; an idle tick has text of length 0, and needs no room
+    ∷ leaves chain-4-4 (row 4) 23 ShortBuffer
+    ∷ writes chain-4-4 (row 4) "run=1,1,2,2\nrun=1,2,2,1\n" 0
+    ∷ writes chain-4-4 (row 4) "run=1,1,2,2\nrun=1,2,2,1\n" 3
+    ∷ writes chain-1-1 (row 2) "" 0
+    ∷ writes chain-1-1 (row 2) "" 4
+    -- every other refusal comes before 10, and a buffer that is long enough changes none
+    ∷ leaves "" report 0 (Misspelled 1)
+    ∷ leaves chain-3-2 report 0 NotLoadable
+    ∷ leaves late-at-18 report 0 Backlog
+    ∷ leaves chain-1-1-in-1-round report 0 Unsettled
+    ∷ leaves chain-1-1 (row 8) 0 PastTheStop
+    ∷ leaves chain-1-1-in-1-round report 50 Unsettled
+    ∷ leaves chain-1-1 (row 8) 50 PastTheStop
+    ∷ []
+
+-- an answer's number, line and length
+pub record AnswerCase : Type 0 where
+  pub answer : Answer
+  pub number : ℕ
+  pub line : ℕ
+  pub length : ℕ
+
+abbrev pub told : Answer → ℕ → ℕ → ℕ → AnswerCase
+told a n l k = record { answer = a; number = n; line = l; length = k }
+
+unfoldable pub answerCases : List AnswerCase
+answerCases =
+    told (Text 36) 0 0 36
+    ∷ told (Text 0) 0 0 0
+    ∷ told (Refused (AgainstPredecessorRules 12)) 4 12 0
+    ∷ told (Refused Backlog) 7 0 0
+    ∷ []

@@ -1,0 +1,13 @@
+pub mod Limits
+pub mod Lists
+pub mod Table
+pub mod Servers
+pub mod ServerJobs
+pub mod Links
+pub mod State
+pub mod Walk
+pub mod WellFormed
+pub mod LeastTrue
+pub mod Described
+pub mod TableCases
+pub mod WalkCases
