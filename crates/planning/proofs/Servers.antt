@@ -14,7 +14,7 @@ use Rattle.rules.specs.Lists.{any?, all?}
 use Rattle.rules.specs.Table.{Node, Graph}
 use Rattle.rules.specs.Servers.{noServer, serverOf, ofNodes, ofGraphs, sinksOf, srv}
 use Rattle.numbers.proofs.Cases.{by-test}
-use Rattle.reading.proofs.Successors.{Fits}
+use Rattle.scanning.proofs.MaskBits.{Fits}
 use Rattle.rules.proofs.ReadWellFormed.{nodesIn}
 use Rattle.planning.proofs.Located.{noNode, graphAt, nodeAt, firstOf}
 

@@ -23,7 +23,7 @@ use Rattle.reading.specs.declared.tables.Three.{Three}
 use Rattle.reading.specs.declared.tables.Place.{Place as Spot}
 use Rattle.reading.specs.Memory.{withGraph, withGraphs, memoryOf}
 use Rattle.reading.specs.Outcomes.{mapOutcome, placeOf, threeLines, Taken, taken, addedGraph, endedGraph, tableReadOf}
-use Rattle.reading.proofs.Scanners.{next, past}
+use Rattle.scanning.proofs.ScannerLaws.{next, past}
 use Rattle.reading.proofs.Successors.{successors}
 
 module _ {A B : Type 0} where

@@ -21,8 +21,8 @@ use Rattle.rules.proofs.Outcomes.{Holds, then-holds, number-line-holds, after-l
 use Rattle.rules.proofs.Tests.{by-test}
 use Rattle.table.specs.declared.Node.{Node as Row}
 use Rattle.reading.specs.declared.tables.Three.{Three}
-use Rattle.reading.specs.Masks.{maskOf}
-use Rattle.reading.specs.Lines.{Judged, passed, misspelled, unfair, judgeBy, same, lineJudged}
+use Rattle.scanning.specs.Masks.{maskOf}
+use Rattle.lines.specs.Lines.{Judged, passed, misspelled, unfair, judgeBy, same, lineJudged}
 use Rattle.reading.specs.Memory.{codedNode}
 use Rattle.reading.specs.Outcomes.{mapOutcome, codedLine, threeLines, namedFrom, taken}
 

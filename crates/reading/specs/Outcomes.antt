@@ -24,7 +24,7 @@ use Rattle.reading.specs.declared.tables.End.{End}
 use Rattle.reading.specs.declared.tables.End.the-variants as End
 use Rattle.reading.specs.declared.tables.NodesRead.{NodesRead}
 use Rattle.reading.specs.declared.tables.TableRead.{TableRead}
-use Rattle.reading.specs.Masks.{maskOf}
+use Rattle.scanning.specs.Masks.{maskOf}
 use Rattle.reading.specs.Memory.{filled}
 
 module _ {A B : Type 0} where

@@ -1,10 +1,10 @@
 // The lines one after another: three for a table's head, for a graph's and for each node; then the table, or refusal 1 to 4.
-use crate::lines::AFTER;
-use crate::lines::BUDGET;
-use crate::lines::Line;
-use crate::lines::PERIOD;
-use crate::lines::PROCESSORS;
-use crate::reader::line_at;
+use lines::AFTER;
+use lines::BUDGET;
+use lines::Line;
+use lines::PERIOD;
+use lines::PROCESSORS;
+use lines::line_at;
 use rules::Refusal;
 use table::Graph;
 use table::Node;

@@ -1,7 +1,7 @@
 // The report of a table: the walk to its stop, and the text of its figures in the lent buffer.
 use crate::figures::figures_of;
 use crate::walks::walked;
-use reading::Verdict;
+use admission::Verdict;
 use rules::Answer;
 use rules::Refusal;
 use table::Table;
@@ -58,7 +58,7 @@ pub fn report(table: &[u8], buffer: &mut [u8]) -> Answer
     ensures call { λ r. ⌜ called r (now (buffer .exit)) ≡ callOf (now (buffer .entry)) (reportOf (now (table .entry))) ⌝ }
     ensures least_true { λ r. ⌜ (answerNumber r ≡ 0 → TrueReport (now (table .entry))) ⌝ }
 {
-    let a = reading::admit(table);
+    let a = admission::admit(table);
     let verdict = a.verdict;
     match verdict {
         Verdict::Refused(r) => Answer::Refused(r),

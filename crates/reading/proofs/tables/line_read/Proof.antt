@@ -4,7 +4,7 @@ use Prim.Native.Nat.{_-_}
 use lib.ListN.{drop}
 use denote.Ref.{now}
 use borrow.Author.Needs.{needs}
-use Rattle.reading.specs.Lines.{judgedOf}
+use Rattle.lines.specs.Lines.{judgedOf}
 use Rattle.reading.specs.Outcomes.{placeOf, taken}
 use Rattle.reading.proofs.Runs.{line-passed, line-misspelled, after-unfair, number-unfair}
 use Rattle.reading.proofs.tables.line_read.Statement.{statement}

@@ -1,0 +1,34 @@
+-- `enter` meets its contract.
+use Prim.Native.Nat.{_-_}
+use native.Mathlib.Omega.{arith}
+use borrow.Author.Needs.{needs}
+use borrow.Author.Tests.{lt-ltb, le-ltb}
+use Rattle.scanning.proofs.lists.enter.Statement.{statement}
+use Rattle.scanning.proofs.lists.enter.Tie as tie
+
+sub-with : tie.Need-sub-with
+sub-with c = search needs
+
+with-requires : tie.Need-with-requires
+with-requires c κs = search needs
+
+returns : tie.Need-returns
+returns c =
+    let a = c .before .before .before .before .before .args in
+    rw (c .before .before .before .before .if1 .taken, lt-ltb (a .l .last) (a .x) (omega arith), lt-ltb (a .x) (a .own) (omega arith), ← c .with .ensures)
+
+returns-2 : tie.Need-returns-2
+returns-2 c =
+    let a = c .before .before .before .before .args in
+    rw (c .before .before .before .if1 .taken, lt-ltb (a .l .last) (a .x) (omega arith), le-ltb (a .x) (a .own) (omega arith))
+
+returns-3 : tie.Need-returns-3
+returns-3 c =
+    let a = c .before .before .before .args in
+    rw (c .before .before .if1 .taken, le-ltb (a .l .last) (a .x) (omega arith))
+
+returns-4 : tie.Need-returns-4
+returns-4 c = rw (c .if1 .left)
+
+pub enter-spec : {M : Type 1} → statement M
+enter-spec = tie.close (tie.spec sub-with with-requires returns returns-2 returns-3 returns-4)
