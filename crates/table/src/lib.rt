@@ -290,17 +290,25 @@ impl Table {
         }
     }
 
-    // Key number k, from 0; past the last one a key without a name.
+    // Key number k, from 0; past the last one a key without a name. Where an index is no constant, the whole table is built at each call.
     pub fn key(k: usize) -> Key
         ensures { λ r. ⌜ r ≡ codedKey (keyAt k) ⌝ }
     {
-        if k < Table::KEY_COUNT {
-            return Table::KEYS[k];
-        }
-        Key {
-            name: [0u8; Table::NAME_LENGTH],
-            length: 0,
-            range: Range { from: 0, to: 0 },
+        match k {
+            0 => Table::KEYS[0],
+            1 => Table::KEYS[1],
+            2 => Table::KEYS[2],
+            3 => Table::KEYS[3],
+            4 => Table::KEYS[4],
+            5 => Table::KEYS[5],
+            6 => Table::KEYS[6],
+            7 => Table::KEYS[7],
+            8 => Table::KEYS[8],
+            _ => Key {
+                name: [0u8; Table::NAME_LENGTH],
+                length: 0,
+                range: Range { from: 0, to: 0 },
+            },
         }
     }
 
