@@ -1,7 +1,8 @@
 -- A line judged, its number left aside: in the rules' terms, and what code answers.
 use mathlib.Core.Bool.{Bool, cond}
 use mathlib.Core.List.{List, [], _∷_}
-use Prim.Native.Nat.{ℕ}
+use mathlib.Core.Path.{_≡_}
+use Prim.Native.Nat.{ℕ, _+_}
 use lib.Dec.{eqb}
 use lib.ListN.{drop}
 use Rattle.rules.specs.Bytes.{lineFeed}
@@ -11,6 +12,7 @@ use Rattle.rules.specs.Spelling.{Scan, read, wrong, _⟫_, text, number, list, 
 use Rattle.rules.specs.WellFormed.{within, orderly}
 use Rattle.lines.specs.declared.judging.Line.{Line}
 use Rattle.lines.specs.declared.judging.Line.the-variants as Line
+use Rattle.lines.specs.declared.judging.ThreeLines.{ThreeLines}
 use Rattle.scanning.specs.Masks.{maskOf}
 
 -- a value and the bytes after the line; the bytes from where the spelling goes wrong; or a value that is not fair
@@ -49,3 +51,22 @@ abbrev pub judgedOf : List ℕ → Line → Judged
 judgedOf s (Line.Value v p) = passed v (drop p s)
 judgedOf s (Line.Misspelled p) = misspelled (drop p s)
 judgedOf s Line.Unfair = unfair
+
+-- the position behind a line read at a position; where there was no such line, that position
+abbrev pub after : Line → ℕ → ℕ
+after (Line.Value v p) at = p
+after (Line.Misspelled p) at = at
+after Line.Unfair at = at
+
+-- three lines of key k and the two behind it, each read behind the one before it
+abbrev pub threeOf : Line → Line → Line → ThreeLines
+threeOf a b c = record { first = a; second = b; third = c }
+
+abbrev pub JudgedAt : ℕ → ℕ → List ℕ → ℕ → Line → Type 0
+JudgedAt k own s at r = judgedOf s r ≡ lineJudged k own (drop at s)
+
+abbrev pub ThreeJudged : ℕ → ℕ → List ℕ → ℕ → ThreeLines → Type 0
+ThreeJudged k own s at r =
+    JudgedAt k own s at (r .first)
+    × JudgedAt (k + 1) own s (after (r .first) at) (r .second)
+    × JudgedAt (k + 2) own s (after (r .second) (after (r .first) at)) (r .third)

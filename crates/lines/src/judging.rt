@@ -14,7 +14,7 @@ ghost use Rattle.rules.specs.Spelling.{heading, number, list};
 ghost use Rattle.rules.specs.WellFormed.{within, orderly};
 ghost use Rattle.scanning.specs.Positions.{foundOf};
 ghost use Rattle.scanning.specs.Masks.{maskOf};
-ghost use Rattle.lines.specs.Lines.{same, always, judgeBy, closed, valued, lineJudged, judgedOf};
+ghost use Rattle.lines.specs.Lines.{same, always, judgeBy, closed, valued, lineJudged, judgedOf, after, threeOf};
 
 // The places of the keys with which a table, a graph and a node begin, and of `after`.
 pub const PROCESSORS: usize = 0;
@@ -31,6 +31,13 @@ pub enum Line {
     Value(u32, usize),
     Misspelled(usize),
     Unfair,
+}
+
+// Three lines, one after another.
+pub struct ThreeLines {
+    pub first: Line,
+    pub second: Line,
+    pub third: Line,
 }
 
 // The name of key k and `=`.
@@ -102,5 +109,26 @@ pub fn line_from(s: &[u8], at: usize, k: usize, own: u32) -> Line
                 number_value(s, p, k)
             }
         }
+    }
+}
+
+// The position behind a line read at a position; the same one where there was no such line.
+pub fn past(read: Line, at: usize) -> usize
+    ensures { λ r. ⌜ r ≡ after read at ⌝ }
+{
+    match read {
+        Line::Value(_, p) => p,
+        Line::Misspelled(_) => at,
+        Line::Unfair => at,
+    }
+}
+
+pub fn three_of(first: Line, second: Line, third: Line) -> ThreeLines
+    ensures { λ r. ⌜ r ≡ threeOf first second third ⌝ }
+{
+    ThreeLines {
+        first,
+        second,
+        third,
     }
 }

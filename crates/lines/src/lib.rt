@@ -7,4 +7,5 @@ pub use judging::BUDGET;
 pub use judging::Line;
 pub use judging::PERIOD;
 pub use judging::PROCESSORS;
-pub use reader::line_at;
+pub use judging::ThreeLines;
+pub use reader::three_lines;

@@ -1,10 +1,14 @@
-// The line reader: it holds the lent table and a position, and reads the line there. Each of its functions takes it apart or makes it, and
-// calls a function on the slice and the number. All others call `line_at`, whose parameters are plain.
+// The line reader: it holds the lent table and a position, reads the line there, and stands behind it afterwards. Each of its functions
+// takes it apart or makes it, and calls a function on the slice and the numbers. All others call `three_lines`, whose parameters are plain.
 use crate::judging::Line;
+use crate::judging::ThreeLines;
 use crate::judging::line_from;
+use crate::judging::past;
+use crate::judging::three_of;
 ghost use mathlib.Core.Path.{_≡_};
+ghost use Prim.Native.Nat.{_+_, _<_, _^_};
 ghost use lib.ListN.{drop};
-ghost use Rattle.lines.specs.Lines.{lineJudged, judgedOf};
+ghost use Rattle.lines.specs.Lines.{lineJudged, judgedOf, after, ThreeJudged};
 
 pub struct Lines<'a> {
     pub table: &'a [u8],
@@ -24,8 +28,26 @@ pub fn line<'a>(l: Lines<'a>, k: usize, own: u32) -> Line
     line_from(l.table, l.at, k, own)
 }
 
-pub fn line_at(s: &[u8], at: usize, k: usize, own: u32) -> Line
-    ensures { λ r. ⌜ judgedOf (now (s .entry)) r ≡ lineJudged k own (drop at (now (s .entry))) ⌝ }
+// The reader behind the line that it read there; where there was none, it stays.
+pub fn behind<'a>(l: Lines<'a>, read: Line) -> Lines<'a>
+    ensures { λ r. ⌜ (r .table ≡ l .entry .table) × (r .at ≡ after read (l .entry .at)) ⌝ }
 {
-    line(lines_at(s, at), k, own)
+    Lines {
+        table: l.table,
+        at: past(read, l.at),
+    }
+}
+
+// The lines of key k and of the two keys behind it, one after another from a position on.
+pub fn three_lines(s: &[u8], at: usize, k: usize, own: u32) -> ThreeLines
+    requires { ⌜ k + 2 < 2 ^ 64 ⌝ }
+    ensures { λ r. ⌜ ThreeJudged k own (now (s .entry)) at r ⌝ }
+{
+    let start = lines_at(s, at);
+    let first = line(start, k, own);
+    let next = behind(start, first);
+    let second = line(next, k + 1, own);
+    let last = behind(next, second);
+    let third = line(last, k + 2, own);
+    three_of(first, second, third)
 }
