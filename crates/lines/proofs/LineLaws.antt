@@ -11,13 +11,13 @@ use Rattle.rules.specs.Keys as Keys
 use Rattle.rules.specs.Keys.{keyAt}
 use Rattle.rules.specs.Limits.{Range}
 use Rattle.rules.specs.Spelling.{Scan, read, wrong, _⟫_, text, heading}
-use Rattle.rules.specs.WellFormed.{within, orderly}
+use Rattle.rules.specs.WellFormed.{within}
 use Rattle.rules.proofs.Formed.{within-limits}
 use Rattle.rules.proofs.Tests.{by-test}
 use Rattle.scanning.specs.Positions.{far, kept}
-use Rattle.scanning.specs.Masks.{maskOf, listing}
-use Rattle.lines.specs.Lines.{misspelled, judgeBy, closed, same, always, lineJudged}
-use Rattle.scanning.proofs.Predecessors.{listing-orderly, listing-mask}
+use Rattle.scanning.specs.Masks.{maskOf, fairList, listing, inOrder}
+use Rattle.lines.specs.Lines.{misspelled, judgeBy, closed, same, always, predecessors, lineJudged}
+use Rattle.scanning.proofs.Predecessors.{in-order, listing-mask}
 
 -- a value that was judged before LF was looked for
 module _ {A : Type 0} (coded : A → ℕ) (fair : A → Bool) (w : A) where
@@ -58,10 +58,12 @@ closed-number r w b h =
     whole l = omega arith
 
 pub closed-list : (own : ℕ) (w : List ℕ) (b : List ℕ)
-    → judgeBy same (always (listing own w .orderly)) (closed (listing own w .mask) b) ≡ judgeBy maskOf (orderly own) (closed w b)
+    → judgeBy same (always (inOrder own (listing predecessors own w))) (closed (listing predecessors own w .mask) b)
+    ≡ judgeBy maskOf (fairList predecessors own) (closed w b)
+unfolding Keys.keys
 closed-list own w b =
-    ap (λ (f : Bool). judgeBy same (always f) (closed (listing own w .mask) b)) (listing-orderly own w)
-    ∙ closed-value maskOf (orderly own) w (listing own w .mask) b (listing-mask own w)
+    ap (λ (f : Bool). judgeBy same (always f) (closed (listing predecessors own w .mask) b)) (in-order predecessors own w (omega arith))
+    ∙ closed-value maskOf (fairList predecessors own) w (listing predecessors own w .mask) b (listing-mask predecessors own w)
 
 -- a line without its heading
 pub headless : (k own : ℕ) (b r : List ℕ) → wrong r ≡ heading (keyAt k .name) b → misspelled r ≡ lineJudged k own b

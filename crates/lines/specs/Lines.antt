@@ -9,11 +9,13 @@ use Rattle.rules.specs.Bytes.{lineFeed}
 use Rattle.rules.specs.Keys as Keys
 use Rattle.rules.specs.Keys.{keyAt}
 use Rattle.rules.specs.Spelling.{Scan, read, wrong, _⟫_, text, number, list, line}
-use Rattle.rules.specs.WellFormed.{within, orderly}
+use Rattle.rules.specs.WellFormed.{within}
+use Rattle.table.specs.declared.Range.{Range}
+use Rattle.table.specs.Limits.{coded}
 use Rattle.lines.specs.declared.judging.Line.{Line}
 use Rattle.lines.specs.declared.judging.Line.the-variants as Line
 use Rattle.lines.specs.declared.judging.ThreeLines.{ThreeLines}
-use Rattle.scanning.specs.Masks.{maskOf}
+use Rattle.scanning.specs.Masks.{maskOf, fairList}
 
 -- a value and the bytes after the line; the bytes from where the spelling goes wrong; or a value that is not fair
 pub data Judged : Type 0 where
@@ -41,10 +43,14 @@ same v = v
 abbrev pub always : Bool → ℕ → Bool
 always b v = b
 
+-- the limits of each number of an `after` list, as code has them
+abbrev pub predecessors : Range
+predecessors = coded (keyAt Keys.after .range)
+
 abbrev pub lineJudged : ℕ → ℕ → List ℕ → Judged
 lineJudged k own s =
     cond (eqb k Keys.after)
-    (judgeBy maskOf (orderly own) (line (keyAt k .name) list s))
+    (judgeBy maskOf (fairList predecessors own) (line (keyAt k .name) list s))
     (judgeBy same (within (keyAt k .range)) (line (keyAt k .name) number s))
 
 abbrev pub judgedOf : List ℕ → Line → Judged

@@ -3,6 +3,7 @@ use scanning::Found;
 use scanning::Listed;
 use scanning::Scanned;
 use scanning::byte_at;
+use scanning::in_order;
 use scanning::list_at;
 use scanning::number_at;
 use scanning::text_at;
@@ -11,10 +12,10 @@ ghost use mathlib.Core.Path.{_≡_};
 ghost use lib.ListN.{drop};
 ghost use Rattle.rules.specs.Keys.{keyAt};
 ghost use Rattle.rules.specs.Spelling.{heading, number, list};
-ghost use Rattle.rules.specs.WellFormed.{within, orderly};
+ghost use Rattle.rules.specs.WellFormed.{within};
 ghost use Rattle.scanning.specs.Positions.{foundOf};
-ghost use Rattle.scanning.specs.Masks.{maskOf};
-ghost use Rattle.lines.specs.Lines.{same, always, judgeBy, closed, valued, lineJudged, judgedOf, after, threeOf};
+ghost use Rattle.scanning.specs.Masks.{maskOf, fairList};
+ghost use Rattle.lines.specs.Lines.{same, always, predecessors, judgeBy, closed, valued, lineJudged, judgedOf, after, threeOf};
 
 // The places of the keys with which a table, a graph and a node begin, and of `after`.
 pub const PROCESSORS: usize = 0;
@@ -87,12 +88,15 @@ pub fn number_value(s: &[u8], at: usize, k: usize) -> Line
     }
 }
 
+// The list of the key `after`, each number within that key's limits.
 pub fn list_value(s: &[u8], at: usize, own: u32) -> Line
-    ensures { λ r. ⌜ judgedOf (now (s .entry)) r ≡ judgeBy maskOf (orderly own) (valued list (drop at (now (s .entry)))) ⌝ }
+    ensures { λ r. ⌜ judgedOf (now (s .entry)) r ≡ judgeBy maskOf (fairList predecessors own) (valued list (drop at (now (s .entry)))) ⌝ }
 {
-    match list_at(s, at, own) {
+    let key = Table::key(AFTER);
+    let range = key.range;
+    match list_at(s, at, range, own) {
         Listed::Wrong(p) => Line::Misspelled(p),
-        Listed::List(l, p) => closed_at(s, p, l.mask, l.orderly),
+        Listed::List(l, p) => closed_at(s, p, l.mask, in_order(own, l)),
     }
 }
 

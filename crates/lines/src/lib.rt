@@ -1,11 +1,12 @@
-// Lines: the expected key, a value, LF, each judged; and the reader that goes from line to line of a lent text.
+// Lines: the expected key, a value, LF, each judged; the reader that goes from line to line of a lent text; and lines with their numbers.
 mod judging;
+mod numbering;
 mod reader;
 
-pub use judging::AFTER;
 pub use judging::BUDGET;
-pub use judging::Line;
 pub use judging::PERIOD;
 pub use judging::PROCESSORS;
-pub use judging::ThreeLines;
-pub use reader::three_lines;
+pub use numbering::Place;
+pub use numbering::Three;
+pub use numbering::ThreeRead;
+pub use numbering::three_at;

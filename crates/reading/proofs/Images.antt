@@ -4,7 +4,7 @@ use Prim.Native.Nat.{ℕ}
 use native.Mathlib.Omega.{arith}
 use Rattle.rules.specs.declared.Refusal.{Refusal}
 use Rattle.rules.specs.Reading.{Place, Outcome, refused, done}
-use Rattle.reading.specs.Outcomes.{mapOutcome}
+use Rattle.lines.specs.Numbered.{mapOutcome}
 
 module _ {A B : Type 0} (f : A → B) where
   pub image-done : (x : Outcome A) (b : B) (p : Place) → done b p ≡ mapOutcome f x → (a : A) × (x ≡ done a p) × (b ≡ f a)

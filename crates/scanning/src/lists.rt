@@ -4,12 +4,12 @@ use crate::scanners::Scanned;
 use crate::scanners::next_is;
 use crate::scanners::number_at;
 use crate::scanners::text_at;
+use table::Range;
 ghost use mathlib.Core.Path.{_≡_};
-ghost use mathlib.Core.Bool.{true};
 ghost use lib.ListN.{drop};
 ghost use Rattle.rules.specs.Spelling.{numbers, list};
 ghost use Rattle.scanning.specs.Positions.{mapScan};
-ghost use Rattle.scanning.specs.Masks.{entered, entries, noEntries, listing, listedOf};
+ghost use Rattle.scanning.specs.Masks.{inRange, entered, entries, noEntries, listing, inOrder, listedOf};
 
 // What is known of a list so far: bit p - 1 of the mask for each predecessor p, the last number, and whether all keep the rules.
 pub struct Listing {
@@ -24,18 +24,26 @@ pub enum Listed {
     Wrong(usize),
 }
 
-// One more predecessor x of node number own.
-pub fn enter(own: u32, l: Listing, x: u32) -> Listing
-    ensures { λ r. ⌜ r ≡ entered own l x ⌝ }
+pub fn in_range(range: Range, v: u32) -> bool
+    ensures { λ r. ⌜ r ≡ inRange range v ⌝ }
+{
+    range.from <= v && v <= range.to
+}
+
+// One more predecessor x of node number own, for numbers in this range.
+pub fn enter(range: Range, own: u32, l: Listing, x: u32) -> Listing
+    ensures { λ r. ⌜ r ≡ entered range own l x ⌝ }
 {
     if l.orderly {
-        if l.last < x {
-            if x < own {
-                return Listing {
-                    mask: numbers::with(l.mask, x - 1),
-                    last: x,
-                    orderly: true,
-                };
+        if in_range(range, x) {
+            if l.last < x {
+                if x < own {
+                    return Listing {
+                        mask: numbers::with(l.mask, x - 1),
+                        last: x,
+                        orderly: true,
+                    };
+                }
             }
         }
     }
@@ -46,8 +54,8 @@ pub fn enter(own: u32, l: Listing, x: u32) -> Listing
     }
 }
 
-pub fn numbers_at(s: &[u8], at: usize, own: u32) -> Listed
-    ensures { λ r. ⌜ listedOf (now (s .entry)) r ≡ mapScan (entries own (noEntries true)) (numbers (drop at (now (s .entry)))) ⌝ }
+pub fn numbers_at(s: &[u8], at: usize, range: Range, own: u32) -> Listed
+    ensures { λ r. ⌜ listedOf (now (s .entry)) r ≡ mapScan (entries range own noEntries) (numbers (drop at (now (s .entry)))) ⌝ }
 {
     let mut l = Listing {
         mask: 0,
@@ -61,7 +69,7 @@ pub fn numbers_at(s: &[u8], at: usize, own: u32) -> Listed
                 return Listed::Wrong(w);
             }
             Scanned::Number(v, q) => {
-                l = enter(own, l, v);
+                l = enter(range, own, l, v);
                 if next_is(s, q, b',') {
                     p = q + 1;
                 } else {
@@ -72,9 +80,9 @@ pub fn numbers_at(s: &[u8], at: usize, own: u32) -> Listed
     }
 }
 
-// `none`, or one or more numbers. Node 1 has `none`, and no other node has.
-pub fn list_at(s: &[u8], at: usize, own: u32) -> Listed
-    ensures { λ r. ⌜ listedOf (now (s .entry)) r ≡ mapScan (listing own) (list (drop at (now (s .entry)))) ⌝ }
+// `none`, or one or more numbers.
+pub fn list_at(s: &[u8], at: usize, range: Range, own: u32) -> Listed
+    ensures { λ r. ⌜ listedOf (now (s .entry)) r ≡ mapScan (listing range own) (list (drop at (now (s .entry)))) ⌝ }
 {
     if next_is(s, at, b'n') {
         match text_at(s, at, *b"none\0\0\0\0\0\0", 4) {
@@ -83,12 +91,22 @@ pub fn list_at(s: &[u8], at: usize, own: u32) -> Listed
                 Listing {
                     mask: 0,
                     last: 0,
-                    orderly: own == 1,
+                    orderly: true,
                 },
                 p,
             ),
         }
     } else {
-        numbers_at(s, at, own)
+        numbers_at(s, at, range, own)
     }
+}
+
+// The ones of the mask count the predecessors: node 1 has none, and no other node has none.
+pub fn in_order(own: u32, l: Listing) -> bool
+    ensures { λ r. ⌜ r ≡ inOrder own l ⌝ }
+{
+    if numbers::ones(l.mask) == 0 {
+        return l.orderly && own == 1;
+    }
+    l.orderly
 }

@@ -7,7 +7,8 @@ use Rattle.rules.proofs.ReadWellFormed.{read-formed}
 use Rattle.rules.specs.Reading.{readOf, admissionOf}
 use Rattle.admission.specs.Admission.{admittedMemory}
 use Rattle.reading.specs.Memory.{memoryOf}
-use Rattle.reading.specs.Outcomes.{placeOf, endOf}
+use Rattle.lines.specs.Numbered.{placeOf}
+use Rattle.reading.specs.Outcomes.{endOf}
 use Rattle.admission.proofs.Admissions.{admitted-memory}
 use Rattle.reading.proofs.Images.{image-done, image-refused}
 use Rattle.admission.proofs.admitting.admit.Statement.{statement}

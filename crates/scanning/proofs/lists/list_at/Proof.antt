@@ -28,7 +28,7 @@ returns : tie.Need-returns
 returns c =
     let a = c .before .before .before .before .before .before .before .before .before .args in
     let s = now (a .s) in
-    none-wrong (a .own) (drop (a .at) s) (drop (c .before .p .given .0 .0) s) (sym (c .before .before .before .before .before .before .before .next-is .ensures)
+    none-wrong (a .range) (a .own) (drop (a .at) s) (drop (c .before .p .given .0 .0) s) (sym (c .before .before .before .before .before .before .before .next-is .ensures)
     ∙ c .before .before .before .before .before .before .if1 .taken)
     (sym (ap (foundOf s) (c .before .p .given .1)) ∙ c .before .before .before .text-at .ensures)
 
@@ -36,14 +36,14 @@ returns-2 : tie.Need-returns-2
 returns-2 c =
     let a = c .before .before .before .before .before .before .before .before .before .args in
     let s = now (a .s) in
-    none-read (a .own) (drop (a .at) s) (drop (c .before .p2 .given .0 .0) s) (sym (c .before .before .before .before .before .before .before .next-is .ensures)
+    none-read (a .range) (a .own) (drop (a .at) s) (drop (c .before .p2 .given .0 .0) s) (sym (c .before .before .before .before .before .before .before .next-is .ensures)
     ∙ c .before .before .before .before .before .before .if1 .taken)
     (sym (ap (foundOf s) (c .before .p2 .given .1)) ∙ c .before .before .before .text-at .ensures)
 
 returns-3 : tie.Need-returns-3
 returns-3 c =
     let a = c .before .before .before .before .args in
-    c .numbers-at .ensures ∙ some-listed (a .own) (drop (a .at) (now (a .s))) (sym (c .before .before .next-is .ensures) ∙ c .before .if1 .left)
+    c .numbers-at .ensures ∙ some-listed (a .range) (a .own) (drop (a .at) (now (a .s))) (sym (c .before .before .next-is .ensures) ∙ c .before .if1 .left)
 
 pub list-at-spec : {M : Type 1} → statement M
 list-at-spec =

@@ -17,10 +17,10 @@ use Rattle.scanning.proofs.lists.numbers_at.Statement.{statement}
 use Rattle.scanning.proofs.lists.numbers_at.Tie as tie
 
 abbrev Inv-loop : tie.InvT-loop
-Inv-loop s at own l₀ p₀ l p = mapScan (entries own l₀) (numbers (drop p₀ s)) ≡ mapScan (entries own l) (numbers (drop p s))
+Inv-loop s at range own l₀ p₀ l p = mapScan (entries range own l₀) (numbers (drop p₀ s)) ≡ mapScan (entries range own l) (numbers (drop p s))
 
 abbrev μ-loop : tie.MeasureT-loop
-μ-loop s at own l₀ p₀ l p = length s - p
+μ-loop s at range own l₀ p₀ l p = length s - p
 
 loop-holds : tie.Need-loop-holds Inv-loop μ-loop
 loop-holds c = refl
@@ -36,7 +36,7 @@ returns c =
     let st = c .before .before .before .before in
     let a = st .before .before .args in
     let s = now (a .s) in
-    entries-wrong (a .own) (st .loop .l) (drop (st .loop .p) s) (drop (c .before .w .given .0 .0) s)
+    entries-wrong (a .range) (a .own) (st .loop .l) (drop (st .loop .p) s) (drop (c .before .w .given .0 .0) s)
     (sym (ap (scannedOf s) (c .before .w .given .1)) ∙ c .before .before .before .number-at .ensures)
     ∙ sym (st .loop .inv)
 
@@ -75,7 +75,7 @@ loop-less c =
     sym (ap (scannedOf s) (known .1)) ∙ c .before .before .before .before .before .before .number-at .ensures in
     let k = sym (c .before .next-is .ensures) ∙ c .if1 .taken in
     let i = next-in comma s q k in
-    let t = number-took (a .own) (st .loop .l) (drop (st .loop .p) s) (omega arith) v (drop q s) e in
+    let t = number-took (a .range) (a .own) (st .loop .l) (drop (st .loop .p) s) (omega arith) v (drop q s) e in
     omega (arith, length-drop q s, length-drop (st .loop .p) s)
 
 loop-again : tie.Need-loop-again Inv-loop μ-loop
@@ -90,9 +90,9 @@ loop-again c =
     sym (ap (scannedOf s) (known .1)) ∙ c .before .before .before .before .before .before .number-at .ensures in
     let k = sym (c .before .next-is .ensures) ∙ c .if1 .taken in
     let i = next-in comma s q k in
-    st .loop .inv ∙ entries-more (a .own) (st .loop .l) (drop (st .loop .p) s) (omega arith) v (drop q s) e k
-    ∙ ap (λ (z : List ℕ). mapScan (entries (a .own) (entered (a .own) (st .loop .l) v)) (numbers z)) (tail-drop s q i)
-    ∙ ap (λ (z : Listing). mapScan (entries (a .own) z) (numbers (drop (q + 1) s))) (sym (c .before .before .enter .ensures))
+    st .loop .inv ∙ entries-more (a .range) (a .own) (st .loop .l) (drop (st .loop .p) s) (omega arith) v (drop q s) e k
+    ∙ ap (λ (z : List ℕ). mapScan (entries (a .range) (a .own) (entered (a .range) (a .own) (st .loop .l) v)) (numbers z)) (tail-drop s q i)
+    ∙ ap (λ (z : Listing). mapScan (entries (a .range) (a .own) z) (numbers (drop (q + 1) s))) (sym (c .before .before .enter .ensures))
 
 returns-2 : tie.Need-returns-2 Inv-loop μ-loop
 returns-2 c =
@@ -105,7 +105,7 @@ returns-2 c =
     let e : read v (drop q s) ≡ capped (number (drop (st .loop .p) s)) =
     sym (ap (scannedOf s) (known .1)) ∙ c .before .before .before .before .before .before .number-at .ensures in
     let k = sym (c .before .next-is .ensures) ∙ c .if1 .left in
-    sym (st .loop .inv ∙ entries-last (a .own) (st .loop .l) (drop (st .loop .p) s) (omega arith) v (drop q s) e k
+    sym (st .loop .inv ∙ entries-last (a .range) (a .own) (st .loop .l) (drop (st .loop .p) s) (omega arith) v (drop q s) e k
     ∙ ap (λ (z : Listing). read z (drop q s)) (sym (c .before .before .enter .ensures)))
 
 pub numbers-at-spec : {M : Type 1} → statement M
