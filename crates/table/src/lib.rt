@@ -290,20 +290,22 @@ impl Table {
         }
     }
 
-    // Key number k, from 0; past the last one a key without a name. Where an index is no constant, the whole table is built at each call.
+    // Key number k, from 0; past the last one a key without a name. At a constant index the compiler takes the one entry and does not
+    // build the table.
     pub fn key(k: usize) -> Key
         ensures { λ r. ⌜ r ≡ codedKey (keyAt k) ⌝ }
     {
+        let keys = Table::KEYS;
         match k {
-            0 => Table::KEYS[0],
-            1 => Table::KEYS[1],
-            2 => Table::KEYS[2],
-            3 => Table::KEYS[3],
-            4 => Table::KEYS[4],
-            5 => Table::KEYS[5],
-            6 => Table::KEYS[6],
-            7 => Table::KEYS[7],
-            8 => Table::KEYS[8],
+            0 => keys[0],
+            1 => keys[1],
+            2 => keys[2],
+            3 => keys[3],
+            4 => keys[4],
+            5 => keys[5],
+            6 => keys[6],
+            7 => keys[7],
+            8 => keys[8],
             _ => Key {
                 name: [0u8; Table::NAME_LENGTH],
                 length: 0,
