@@ -1,10 +1,10 @@
 -- Admission in the form of the code's struct.
 use Prim.Native.Nat.{ℕ, _*_}
-use Rattle.rules.specs.declared.Refusal.{Refusal}
-use Rattle.rules.specs.declared.Refusal.the-variants.{LongHyperperiod, NotLoadable}
-use Rattle.rules.specs.Limits as Limits
-use Rattle.rules.specs.Table.{hyperperiod}
-use Rattle.rules.specs.Reading.{Admission, admitted, refused}
+use Rattle.format.specs.declared.Refusal.{Refusal}
+use Rattle.format.specs.declared.Refusal.the-variants.{LongHyperperiod, NotLoadable}
+use Rattle.schedule.specs.Limits as Limits
+use Rattle.schedule.specs.Table.{hyperperiod}
+use Rattle.rules.specs.Admission.{Admission, admitted, refused}
 use Rattle.numbers.specs.declared.multiples.Multiple.{Multiple}
 use Rattle.numbers.specs.declared.multiples.Multiple.the-variants.{Within, Past}
 use Rattle.table.specs.declared.Table.{Table}

@@ -3,8 +3,8 @@ use mathlib.Core.Bool.{cond}
 use mathlib.Core.List.{List, [], _∷_}
 use Prim.Native.Nat.{ℕ, _-_, _*_, _/_}
 use lib.Dec.{leb}
-use Rattle.rules.specs.Lists.{sum}
-use Rattle.rules.specs.Table.{Node, Graph, lcm}
+use Rattle.schedule.specs.Lists.{sum}
+use Rattle.schedule.specs.Table.{Node, Graph, lcm}
 use Rattle.numbers.specs.declared.multiples.Multiple.{Multiple}
 use Rattle.numbers.specs.declared.multiples.Multiple.the-variants.{Within, Past}
 use Rattle.admission.specs.declared.loads.Room.{Room}

@@ -2,13 +2,13 @@
 use crate::loads::Room;
 use crate::loads::hyperperiod_of;
 use crate::loads::load_room;
+use format::Refusal;
 use numbers::Multiple;
 use reading::End;
 use reading::table_read;
-use rules::Refusal;
 use table::Table;
 ghost use mathlib.Core.Path.{_≡_};
-ghost use Rattle.rules.specs.Reading.{admissionOf};
+ghost use Rattle.rules.specs.Admission.{admissionOf};
 ghost use Rattle.admission.specs.Admission.{codedRefusal, admittedMemory, codedAdmission};
 
 pub enum Verdict {

@@ -6,7 +6,7 @@ use table::Table;
 ghost use mathlib.Core.Path.{_≡_};
 ghost use Prim.Native.Nat.{_+_, _*_, _/_};
 ghost use lib.ListN.{getD};
-ghost use Rattle.rules.specs.Limits as Limits;
+ghost use Rattle.schedule.specs.Limits as Limits;
 ghost use Rattle.table.specs.Fresh.{noGraph, noNode};
 ghost use Rattle.reading.specs.Memory.{graphOf, tableOf};
 ghost use Rattle.admission.specs.Loads.{hyperperiodWithin, roomAfter, graphLoad, graphsLoad};

@@ -3,10 +3,10 @@
 // rows at the first instants, what reading comes to, or the same of each cut of the table.
 use admission::Admitted;
 use admission::Verdict;
+use format::Refusal;
 use libc::STDIN_FILENO;
 use libc::STDOUT_FILENO;
 use rules::Answer;
-use rules::Refusal;
 ghost use Prim.Native.Nat.{_<_, _≤_};
 ghost use lib.ListN.{length};
 

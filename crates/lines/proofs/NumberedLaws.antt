@@ -8,18 +8,18 @@ use native.Mathlib.Omega.{arith}
 use lib.Dec.{ltb, eqb}
 use lib.ListN.{drop}
 use borrow.Author.Tests.{eqb-true, ltb-true, le-leb}
-use Rattle.rules.specs.declared.Refusal.{Refusal}
-use Rattle.rules.specs.declared.Refusal.the-variants.{Misspelled, OutsideLimits, AgainstPredecessorRules}
-use Rattle.rules.specs.Limits as Limits
-use Rattle.rules.specs.Keys as Keys
-use Rattle.rules.specs.Keys.{keyAt}
-use Rattle.rules.specs.Lists.{all?}
-use Rattle.rules.specs.Spelling.{Scan, read, wrong, number, list, line}
-use Rattle.rules.specs.WellFormed.{within, rising, orderly}
-use Rattle.rules.specs.Reading.{Place, Outcome, refused, done, _and-then_, judged, numberLine, afterLine}
-use Rattle.rules.proofs.Formed.{first-of, second-of}
+use Rattle.format.specs.declared.Refusal.{Refusal}
+use Rattle.format.specs.declared.Refusal.the-variants.{Misspelled, OutsideLimits, AgainstPredecessorRules}
+use Rattle.schedule.specs.Limits as Limits
+use Rattle.format.specs.Keys as Keys
+use Rattle.format.specs.Keys.{keyAt}
+use Rattle.schedule.specs.Lists.{all?}
+use Rattle.format.specs.Spelling.{Scan, read, wrong, number, list, line}
+use Rattle.schedule.specs.WellFormed.{within, rising, orderly}
+use Rattle.format.specs.Reading.{Place, Outcome, refused, done, _and-then_, judged, numberLine, afterLine}
+use Rattle.theorems.proofs.Formed.{first-of, second-of}
 use Rattle.rules.proofs.Outcomes.{Holds, then-holds, number-line-holds, after-line-holds}
-use Rattle.rules.proofs.Tests.{by-test}
+use Rattle.schedule.proofs.Tests.{by-test}
 use Rattle.table.specs.Limits.{coded}
 use Rattle.scanning.specs.Masks.{maskOf, inRange, fairList}
 use Rattle.lines.specs.declared.judging.Line.{Line}

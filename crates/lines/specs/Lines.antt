@@ -5,11 +5,11 @@ use mathlib.Core.Path.{_≡_}
 use Prim.Native.Nat.{ℕ, _+_}
 use lib.Dec.{eqb}
 use lib.ListN.{drop}
-use Rattle.rules.specs.Bytes.{lineFeed}
-use Rattle.rules.specs.Keys as Keys
-use Rattle.rules.specs.Keys.{keyAt}
-use Rattle.rules.specs.Spelling.{Scan, read, wrong, _⟫_, text, number, list, line}
-use Rattle.rules.specs.WellFormed.{within}
+use Rattle.format.specs.Bytes.{lineFeed}
+use Rattle.format.specs.Keys as Keys
+use Rattle.format.specs.Keys.{keyAt}
+use Rattle.format.specs.Spelling.{Scan, read, wrong, _⟫_, text, number, list, line}
+use Rattle.schedule.specs.WellFormed.{within}
 use Rattle.table.specs.declared.Range.{Range}
 use Rattle.table.specs.Limits.{coded}
 use Rattle.lines.specs.declared.judging.Line.{Line}

@@ -4,10 +4,10 @@ use mathlib.Core.List.{List}
 use Prim.Native.Nat.{ℕ, _+_}
 use lib.Dec.{eqb}
 use lib.ListN.{drop}
-use Rattle.rules.specs.declared.Refusal.{Refusal}
-use Rattle.rules.specs.declared.Refusal.the-variants.{Misspelled, OutsideLimits, AgainstPredecessorRules}
-use Rattle.rules.specs.Keys as Keys
-use Rattle.rules.specs.Reading.{Place, Outcome, refused, done, _and-then_, numberLine, afterLine}
+use Rattle.format.specs.declared.Refusal.{Refusal}
+use Rattle.format.specs.declared.Refusal.the-variants.{Misspelled, OutsideLimits, AgainstPredecessorRules}
+use Rattle.format.specs.Keys as Keys
+use Rattle.format.specs.Reading.{Place, Outcome, refused, done, _and-then_, numberLine, afterLine}
 use Rattle.scanning.specs.Masks.{maskOf}
 use Rattle.lines.specs.declared.judging.Line.{Line}
 use Rattle.lines.specs.declared.judging.Line.the-variants as Line

@@ -4,10 +4,10 @@ use crate::judging::AFTER;
 use crate::judging::Line;
 use crate::judging::ThreeLines;
 use crate::reader::three_lines;
-use rules::Refusal;
+use format::Refusal;
 ghost use mathlib.Core.Path.{_≡_};
 ghost use Prim.Native.Nat.{_+_, _<_, _≤_, _^_};
-ghost use Rattle.rules.specs.Limits as Limits;
+ghost use Rattle.schedule.specs.Limits as Limits;
 ghost use Rattle.lines.specs.Numbered.{placeOf, unfairAt, numberedLine, threeNumbered, threeLines, threeReadOf};
 
 // Where reading stands: the number of the next line, and its position.

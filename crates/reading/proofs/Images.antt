@@ -2,8 +2,8 @@
 use mathlib.Core.Path.{_≡_}
 use Prim.Native.Nat.{ℕ}
 use native.Mathlib.Omega.{arith}
-use Rattle.rules.specs.declared.Refusal.{Refusal}
-use Rattle.rules.specs.Reading.{Place, Outcome, refused, done}
+use Rattle.format.specs.declared.Refusal.{Refusal}
+use Rattle.format.specs.Reading.{Place, Outcome, refused, done}
 use Rattle.lines.specs.Numbered.{mapOutcome}
 
 module _ {A B : Type 0} (f : A → B) where

@@ -6,10 +6,10 @@ use native.Mathlib.Numerals.{add-one}
 use native.Mathlib.Omega.{arith}
 use lib.Bits.{bitOr}
 use lib.ListN.{set}
-use Rattle.rules.specs.declared.Refusal.{Refusal}
-use Rattle.rules.specs.Keys as Keys
-use Rattle.rules.specs.Table.{Node}
-use Rattle.rules.specs.Reading.{Place, Outcome, refused, done, _and-then_, numberLine, afterLine, node, nodesFrom}
+use Rattle.format.specs.declared.Refusal.{Refusal}
+use Rattle.format.specs.Keys as Keys
+use Rattle.schedule.specs.Table.{Node}
+use Rattle.format.specs.Reading.{Place, Outcome, refused, done, _and-then_, numberLine, afterLine, node, nodesFrom}
 use Rattle.table.specs.declared.Node.{Node as Row}
 use Rattle.scanning.specs.Masks.{maskOf}
 use Rattle.lines.specs.declared.numbering.Three.{Three}

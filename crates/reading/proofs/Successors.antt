@@ -7,11 +7,11 @@ use native.Mathlib.Omega.{arith}
 use lib.Bits.{bitOr}
 use lib.Dec.{eqb}
 use lib.ListN.{length}
-use Rattle.rules.specs.Limits as Limits
-use Rattle.rules.specs.Lists.{any?, all?, numbers, upTo}
-use Rattle.rules.specs.Table.{Node}
-use Rattle.rules.specs.WellFormed.{followed, allFollowed, nodesFormed}
-use Rattle.rules.proofs.Formed.{node-formed}
+use Rattle.schedule.specs.Limits as Limits
+use Rattle.schedule.specs.Lists.{any?, all?, numbers, upTo}
+use Rattle.schedule.specs.Table.{Node}
+use Rattle.schedule.specs.WellFormed.{followed, allFollowed, nodesFormed}
+use Rattle.theorems.proofs.Formed.{node-formed}
 use Rattle.numbers.specs.Masks.{width, bit, unsetBelow}
 use Rattle.numbers.proofs.MaskLaws.{no-bit, bit-or, unset-none, unset-more}
 use Rattle.scanning.specs.Masks.{maskOf}

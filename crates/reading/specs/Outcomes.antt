@@ -5,9 +5,9 @@ use Prim.Native.Nat.{ℕ, _+_, _-_}
 use lib.Bits.{bitOr}
 use lib.Dec.{eqb}
 use lib.ListN.{set}
-use Rattle.rules.specs.declared.Refusal.the-variants.{AgainstPredecessorRules}
-use Rattle.rules.specs.Table as Rules
-use Rattle.rules.specs.Reading.{Outcome, refused, done}
+use Rattle.format.specs.declared.Refusal.the-variants.{AgainstPredecessorRules}
+use Rattle.schedule.specs.Table as Rules
+use Rattle.format.specs.Reading.{Outcome, refused, done}
 use Rattle.numbers.specs.Masks.{unsetBelow}
 use Rattle.table.specs.declared.Table.{Table}
 use Rattle.table.specs.declared.Node.{Node}

@@ -1,4 +1,5 @@
 // The lines one after another: three for a table's head, for a graph's and for each node; then the table, or refusal 1 to 4.
+use format::Refusal;
 use lines::BUDGET;
 use lines::PERIOD;
 use lines::PROCESSORS;
@@ -6,14 +7,13 @@ use lines::Place;
 use lines::Three;
 use lines::ThreeRead;
 use lines::three_at;
-use rules::Refusal;
 use table::Graph;
 use table::Node;
 use table::Table;
 ghost use mathlib.Core.Path.{_≡_};
 ghost use Prim.Native.Nat.{_+_, _-_, _*_, _^_, _<_, _≤_};
-ghost use Rattle.rules.specs.Limits as Limits;
-ghost use Rattle.rules.specs.Reading.{_and-then_, node, nodesFrom, graphNodes, graph, graphsFrom, ended, readOf};
+ghost use Rattle.schedule.specs.Limits as Limits;
+ghost use Rattle.format.specs.Reading.{_and-then_, node, nodesFrom, graphNodes, graph, graphsFrom, ended, readOf};
 ghost use Rattle.reading.specs.Memory.{codedNode, withGraph, withGraphs, memoryOf};
 ghost use Rattle.lines.specs.Numbered.{mapOutcome, placeOf, codedLine, lineReadOf, threeLines, threeReadOf};
 ghost use Rattle.reading.specs.Outcomes.{nodeReadOf, taken, nodesReadOf, addedGraph, endedGraph, tableReadOf};

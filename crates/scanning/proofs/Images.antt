@@ -3,7 +3,7 @@ use mathlib.Core.Path.{_≡_}
 use mathlib.Core.List.{List}
 use Prim.Native.Nat.{ℕ}
 use native.Mathlib.Omega.{arith}
-use Rattle.rules.specs.Spelling.{Scan, read, wrong}
+use Rattle.format.specs.Spelling.{Scan, read, wrong}
 use Rattle.scanning.specs.Positions.{mapScan}
 
 module _ {A B : Type 0} (f : A → B) where

@@ -6,9 +6,9 @@ use Prim.Native.Nat.{ℕ, zero, suc, _+_, _-_, _<_, _≤_}
 use native.Mathlib.Omega.{arith}
 use lib.Dec.{ltb, eqb, eqb·suc-suc}
 use borrow.Author.Tests.{ltb-true}
-use Rattle.rules.specs.Lists.{any?}
-use Rattle.rules.specs.WellFormed.{rising, orderly}
-use Rattle.rules.proofs.Formed.{first-of, second-of}
+use Rattle.schedule.specs.Lists.{any?}
+use Rattle.schedule.specs.WellFormed.{rising, orderly}
+use Rattle.theorems.proofs.Formed.{first-of, second-of}
 use Rattle.numbers.specs.Masks.{width, bit, with}
 use Rattle.numbers.proofs.MaskLaws.{no-bit, bit-with}
 use Rattle.scanning.specs.Masks.{maskFrom, maskOf}

@@ -8,12 +8,12 @@ use native.Mathlib.Omega.{arith}
 use lib.Dec.{leb, ltb, eqb}
 use lib.ListN.{length}
 use borrow.Author.Tests.{le-ltb, leb-true, leb-false, ltb-true, eq-eqb, ne-eqb}
-use Rattle.rules.specs.Bytes.{bytes, comma, digitZero, isDigit, valueOf}
-use Rattle.rules.specs.Spelling.{Scan, read, wrong, _⟫_, text, digits, number, numbersBy, numbers, next?, letterN, list}
-use Rattle.rules.specs.Lists.{any?, all?}
-use Rattle.rules.specs.WellFormed.{rising, orderly}
-use Rattle.rules.proofs.Formed.{first-of, second-of}
-use Rattle.rules.proofs.Tests.{by-test}
+use Rattle.format.specs.Bytes.{bytes, comma, digitZero, isDigit, valueOf}
+use Rattle.format.specs.Spelling.{Scan, read, wrong, _⟫_, text, digits, number, numbersBy, numbers, next?, letterN, list}
+use Rattle.schedule.specs.Lists.{any?, all?}
+use Rattle.schedule.specs.WellFormed.{rising, orderly}
+use Rattle.theorems.proofs.Formed.{first-of, second-of}
+use Rattle.schedule.proofs.Tests.{by-test}
 use Rattle.numbers.specs.Masks.{width, bit, with, ones}
 use Rattle.numbers.proofs.Counts.{ones-without}
 use Rattle.table.specs.declared.Range.{Range}

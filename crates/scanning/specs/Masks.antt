@@ -4,10 +4,10 @@ use mathlib.Core.List.{List, [], _∷_}
 use Prim.Native.Nat.{ℕ, _-_}
 use lib.Dec.{leb, ltb, eqb}
 use lib.ListN.{drop}
-use Rattle.rules.specs.Limits as Limits
-use Rattle.rules.specs.Lists.{all?, keep, upTo}
-use Rattle.rules.specs.Spelling.{Scan, read, wrong}
-use Rattle.rules.specs.WellFormed.{orderly}
+use Rattle.schedule.specs.Limits as Limits
+use Rattle.schedule.specs.Lists.{all?, keep, upTo}
+use Rattle.format.specs.Spelling.{Scan, read, wrong}
+use Rattle.schedule.specs.WellFormed.{orderly}
 use Rattle.numbers.specs.Masks.{bit, with, ones}
 use Rattle.table.specs.declared.Range.{Range}
 use Rattle.scanning.specs.declared.lists.Listing.{Listing}

@@ -2,7 +2,7 @@
 use mathlib.Core.List.{List}
 use Prim.Native.Nat.{ℕ, min}
 use lib.ListN.{drop}
-use Rattle.rules.specs.Spelling.{Scan, read, wrong}
+use Rattle.format.specs.Spelling.{Scan, read, wrong}
 use Rattle.scanning.specs.declared.scanners.Found.{Found}
 use Rattle.scanning.specs.declared.scanners.Found.the-variants as Found
 use Rattle.scanning.specs.declared.scanners.Scanned.{Scanned}

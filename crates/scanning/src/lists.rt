@@ -7,7 +7,7 @@ use crate::scanners::text_at;
 use table::Range;
 ghost use mathlib.Core.Path.{_≡_};
 ghost use lib.ListN.{drop};
-ghost use Rattle.rules.specs.Spelling.{numbers, list};
+ghost use Rattle.format.specs.Spelling.{numbers, list};
 ghost use Rattle.scanning.specs.Positions.{mapScan};
 ghost use Rattle.scanning.specs.Masks.{inRange, entered, entries, noEntries, listing, inOrder, listedOf};
 

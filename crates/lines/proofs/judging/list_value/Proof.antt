@@ -5,7 +5,7 @@ use Prim.Native.Nat.{_-_}
 use lib.ListN.{drop}
 use denote.Ref.{now}
 use borrow.Author.Needs.{needs}
-use Rattle.rules.specs.Spelling.{list}
+use Rattle.format.specs.Spelling.{list}
 use Rattle.table.specs.declared.Key.{Key}
 use Rattle.lines.specs.Lines.{judgeBy, same, always, predecessors, closed}
 use Rattle.scanning.specs.Masks.{listing, inOrder, listedOf}

@@ -1,6 +1,6 @@
 -- `unfair_at` meets its contract.
 use borrow.Author.Tests.{eq-eqb, ne-eqb}
-use Rattle.rules.specs.Keys as Keys
+use Rattle.format.specs.Keys as Keys
 use Rattle.lines.proofs.numbering.unfair_at.Statement.{statement}
 use Rattle.lines.proofs.numbering.unfair_at.Tie as tie
 

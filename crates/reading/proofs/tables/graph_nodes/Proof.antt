@@ -6,7 +6,7 @@ use denote.Ref.{now}
 use borrow.Author.Needs.{needs}
 use Rattle.rules.proofs.Outcomes.{told}
 use Rattle.rules.proofs.ReadWellFormed.{nodes-holds}
-use Rattle.rules.specs.Reading.{node, nodesFrom}
+use Rattle.format.specs.Reading.{node, nodesFrom}
 use Rattle.reading.specs.Memory.{withGraph}
 use Rattle.lines.specs.Numbered.{mapOutcome, placeOf}
 use Rattle.reading.specs.Outcomes.{endOf, Taken, taken, tableReadOf}

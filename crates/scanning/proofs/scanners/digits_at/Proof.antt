@@ -5,7 +5,7 @@ use native.Mathlib.Omega.{arith}
 use lib.ListN.{length, drop}
 use denote.Ref.{now}
 use borrow.Author.Needs.{needs}
-use Rattle.rules.specs.Spelling.{digits}
+use Rattle.format.specs.Spelling.{digits}
 use Rattle.scanning.specs.Positions.{far, capped}
 use Rattle.scanning.proofs.ScannerLaws.{digit-value, more-digits, no-digit, digits-past}
 use Rattle.scanning.proofs.scanners.digits_at.Statement.{statement}

@@ -5,7 +5,7 @@ use native.Mathlib.Omega.{arith}
 use lib.ListN.{take, drop}
 use denote.Ref.{now}
 use borrow.Author.Needs.{needs}
-use Rattle.rules.specs.Spelling.{text}
+use Rattle.format.specs.Spelling.{text}
 use Rattle.scanning.proofs.ScannerLaws.{rest-past, rest-other, rest-same, rest-found}
 use Rattle.scanning.proofs.scanners.text_at.Statement.{statement}
 use Rattle.scanning.proofs.scanners.text_at.Tie as tie

@@ -5,7 +5,7 @@ use native.Mathlib.Omega.{arith}
 use lib.Arith.{lt-of-le-ne}
 use lib.ListN.{length, List·getD-eq-default}
 use borrow.Author.Needs.{needs}
-use Rattle.rules.specs.Keys.{keys, noKey}
+use Rattle.format.specs.Keys.{keys, noKey}
 use Rattle.table.proofs.Table.key.Statement.{statement}
 use Rattle.table.proofs.Table.key.Tie as tie
 
