@@ -1,11 +1,11 @@
 // Reads cases from standard input (document 01's worked tables, and the edges of reading) and prints the answer to each. A case is a mark, a
 // label, LF, and the bytes of a table up to the next mark; no table here has a byte that is a mark. The mark says what is printed: the report, the
 // rows at the first instants, what reading comes to, or the same of each cut of the table.
+use admission::Admitted;
+use admission::Verdict;
 use format::Refusal;
 use libc::STDIN_FILENO;
 use libc::STDOUT_FILENO;
-use reading::Admitted;
-use reading::Verdict;
 use rules::Answer;
 ghost use Prim.Native.Nat.{_<_, _≤_};
 ghost use lib.ListN.{length};
@@ -89,7 +89,7 @@ fn print_admitted(a: Admitted) {
 fn print_reading(label: &[u8], table: &[u8]) {
     io::write_all(STDOUT_FILENO, label);
     io::write_all(STDOUT_FILENO, b": ");
-    print_admitted(reading::admit(table));
+    print_admitted(admission::admit(table));
 }
 
 // The table cut after n bytes.
@@ -100,7 +100,7 @@ fn print_cut(label: &[u8], table: &[u8], n: usize)
     io::write_all(STDOUT_FILENO, b", ");
     io::print_decimal(STDOUT_FILENO, n as u64);
     io::write_all(STDOUT_FILENO, b" bytes: ");
-    print_admitted(reading::admit(&table[..n]));
+    print_admitted(admission::admit(&table[..n]));
 }
 
 fn print_cuts(label: &[u8], table: &[u8]) {

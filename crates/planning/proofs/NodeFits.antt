@@ -24,9 +24,9 @@ use Rattle.window.specs.declared.Work.{Work}
 use Rattle.window.specs.Entries.{places}
 use Rattle.window.proofs.Members.{each-member}
 use Rattle.window.proofs.Relation.{Planned}
-use Rattle.reading.specs.Masks.{maskOf}
+use Rattle.scanning.specs.Masks.{maskOf}
 use Rattle.reading.specs.Memory.{memoryOf}
-use Rattle.reading.proofs.Successors.{Fits, orderly-fits, mask-bit}
+use Rattle.scanning.proofs.MaskBits.{Fits, orderly-fits, mask-bit}
 use Rattle.planning.specs.Narrowing.{most16}
 use Rattle.planning.specs.Places.{atPlaces}
 use Rattle.planning.specs.Plans.{planOf}

@@ -14,7 +14,7 @@ use Rattle.schedule.specs.Lists.{any?, all?}
 use Rattle.schedule.specs.Table.{Node, Graph}
 use Rattle.schedule.specs.Servers.{noServer, serverOf, ofNodes, ofGraphs, sinksOf, srv}
 use Rattle.numbers.proofs.Cases.{by-test}
-use Rattle.reading.proofs.Successors.{Fits}
+use Rattle.scanning.proofs.MaskBits.{Fits}
 use Rattle.rules.proofs.ReadWellFormed.{nodesIn}
 use Rattle.planning.proofs.Located.{noNode, graphAt, nodeAt, firstOf}
 

@@ -19,11 +19,12 @@ use Rattle.schedule.proofs.Tests.{by-test}
 use Rattle.numbers.specs.Masks.{unsetBelow}
 use Rattle.table.specs.declared.Table.{Table as Memory}
 use Rattle.table.specs.Fresh.{emptyTable}
-use Rattle.reading.specs.declared.tables.Three.{Three}
-use Rattle.reading.specs.declared.tables.Place.{Place as Spot}
+use Rattle.lines.specs.declared.numbering.Three.{Three}
+use Rattle.lines.specs.declared.numbering.Place.{Place as Spot}
 use Rattle.reading.specs.Memory.{withGraph, withGraphs, memoryOf}
-use Rattle.reading.specs.Outcomes.{mapOutcome, placeOf, threeLines, Taken, taken, addedGraph, endedGraph, tableReadOf}
-use Rattle.reading.proofs.Scanners.{next, past}
+use Rattle.lines.specs.Numbered.{mapOutcome, placeOf, threeLines}
+use Rattle.reading.specs.Outcomes.{Taken, taken, addedGraph, endedGraph, tableReadOf}
+use Rattle.scanning.proofs.ScannerLaws.{next, past}
 use Rattle.reading.proofs.Successors.{successors}
 
 module _ {A B : Type 0} where

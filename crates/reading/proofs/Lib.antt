@@ -1,13 +1,6 @@
-pub mod Scanners
 pub mod Images
-pub mod Predecessors
-pub mod KeyLaws
-pub mod LineLaws
 pub mod Runs
 pub mod Successors
 pub mod Graphs
-pub mod Members
 pub mod MemoryLaws
-pub mod Loads
-pub mod Admissions
 pub mod Spelled

@@ -18,7 +18,7 @@ use Rattle.table.specs.declared.Graph.{Graph}
 use Rattle.table.specs.declared.Node.{Node}
 use Rattle.table.specs.Fresh.{noGraph, noNode, emptyTable}
 use Rattle.reading.specs.Memory.{codedNode, filled, withGraph, withGraphs, memoryOf, nodeOf, graphOf, tableOf}
-use Rattle.reading.proofs.Members.{list-of-mask}
+use Rattle.scanning.proofs.Members.{list-of-mask}
 
 tab-alike : {B : Type 0} (f g : ℕ → B) (a n : ℕ) → ((i : ℕ) → i < a + n → f i ≡ g i) → tab f a n ≡ tab g a n
 tab-alike f g a zero h = refl

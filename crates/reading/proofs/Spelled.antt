@@ -4,12 +4,12 @@ use mathlib.Core.List.{List}
 use Prim.Native.Nat.{ℕ, _<_, _≤_}
 use lib.ListN.{length}
 use Rattle.format.specs.Spelling.{number}
-use Rattle.reading.specs.Positions.{scannedOf, capped}
+use Rattle.scanning.specs.Positions.{scannedOf, capped}
 use Rattle.reading.specs.Instants.{instantIn, instantOf}
-use Rattle.reading.specs.declared.scanning.Scanned.{Scanned}
-use Rattle.reading.specs.declared.scanning.Scanned.the-variants as Scanned
+use Rattle.scanning.specs.declared.scanners.Scanned.{Scanned}
+use Rattle.scanning.specs.declared.scanners.Scanned.the-variants as Scanned
 use Rattle.reading.specs.declared.instants.Instant.the-variants.{At, Misspelled}
-use Rattle.reading.proofs.Scanners.{next, past}
+use Rattle.scanning.proofs.ScannerLaws.{next, past}
 
 module _ (s : List ℕ) (r : Scanned) (found : scannedOf s r ≡ capped (number s)) where
   pub nothing-after : (v p : ℕ) → r ≡ Scanned.Number v p → length s ≤ p → At v ≡ instantOf s

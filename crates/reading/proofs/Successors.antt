@@ -1,60 +1,24 @@
 -- The mask that is left over is 0 exactly where every node but the last stands in some list.
 use mathlib.Core.Path.{_≡_, sym, _∙_, ap}
-use mathlib.Core.Bool.{Bool, true, _&&_, _||_, or-false, or-assoc, or-comm, and-true, and-assoc}
+use mathlib.Core.Bool.{Bool, true, _&&_, _||_, or-false, or-assoc, and-true, and-assoc}
 use mathlib.Core.List.{List, [], _∷_}
-use Prim.Native.Nat.{ℕ, zero, suc, _+_, _-_, _<_, _≤_}
+use Prim.Native.Nat.{ℕ, zero, suc, _+_, _-_, _≤_}
 use native.Mathlib.Omega.{arith}
 use lib.Bits.{bitOr}
-use lib.Dec.{ltb, eqb, eqb·suc-suc}
+use lib.Dec.{eqb}
 use lib.ListN.{length}
-use borrow.Author.Tests.{ltb-true}
 use Rattle.schedule.specs.Limits as Limits
 use Rattle.schedule.specs.Lists.{any?, all?, numbers, upTo}
 use Rattle.schedule.specs.Table.{Node}
-use Rattle.schedule.specs.WellFormed.{rising, orderly, followed, allFollowed, nodesFormed}
-use Rattle.theorems.proofs.Formed.{first-of, second-of, node-formed}
-use Rattle.numbers.specs.Masks.{width, bit, with, unsetBelow}
-use Rattle.numbers.proofs.MaskLaws.{no-bit, bit-or, bit-with, unset-none, unset-more}
-use Rattle.reading.specs.Masks.{maskFrom, maskOf}
+use Rattle.schedule.specs.WellFormed.{followed, allFollowed, nodesFormed}
+use Rattle.theorems.proofs.Formed.{node-formed}
+use Rattle.numbers.specs.Masks.{width, bit, unsetBelow}
+use Rattle.numbers.proofs.MaskLaws.{no-bit, bit-or, unset-none, unset-more}
+use Rattle.scanning.specs.Masks.{maskOf}
 use Rattle.reading.specs.Outcomes.{namedFrom}
+use Rattle.scanning.proofs.MaskBits.{orderly-fits, mask-bit}
 
--- the numbers of a list that a mask has room for
-abbrev pub Fits : List ℕ → Type 0
-Fits [] = Unit {0}
-Fits (x ∷ xs) = (0 < x) × (x ≤ width) × Fits xs
-
-rising-fits : (own last : ℕ) (l : List ℕ) → own ≤ suc width → rising own last l ≡ true → Fits l
-unfolding rising
-rising-fits own last [] h e = tt
-rising-fits own last (x ∷ xs) h e =
-    let here = first-of (ltb last x && ltb x own) (rising own x xs) e in
-    let above = ltb-true last x (first-of (ltb last x) (ltb x own) here) in
-    let below = ltb-true x own (second-of (ltb last x) (ltb x own) here) in
-    (omega arith, omega arith, rising-fits own x xs h (second-of (ltb last x && ltb x own) (rising own x xs) e))
-
-pub orderly-fits : (own : ℕ) (l : List ℕ) → own ≤ suc width → orderly own l ≡ true → Fits l
-unfolding orderly
-orderly-fits own [] h e = tt
-orderly-fits own (x ∷ xs) h e = rising-fits own 0 (x ∷ xs) h e
-
--- a mask has a one at each number of its list
-mask-from-bit : (l : List ℕ) (m j : ℕ) → Fits l → bit (maskFrom m l) j ≡ bit m j || any? (eqb (suc j)) l
-unfolding maskFrom
-mask-from-bit [] m j f = sym (or-false (bit m j))
-mask-from-bit (zero ∷ xs) m j f = absurd (omega (arith, f .0))
-mask-from-bit (suc x ∷ xs) m j f =
-    let e : suc x - 1 ≡ x = omega arith in
-    let rest = any? (eqb (suc j)) xs in
-    mask-from-bit xs (with m (suc x - 1)) j (f .2)
-    ∙ ap (λ (b : Bool). b || rest)
-    (bit-with m (suc x - 1) j (omega (arith, f .1)) ∙ ap (λ (z : ℕ). eqb j z || bit m j) e ∙ ap (λ (b : Bool). b || bit m j) (sym (eqb·suc-suc j x))
-    ∙ or-comm (eqb (suc j) (suc x)) (bit m j))
-    ∙ or-assoc (bit m j) (eqb (suc j) (suc x)) rest
-
-pub mask-bit : (l : List ℕ) (j : ℕ) → Fits l → bit (maskOf l) j ≡ any? (eqb (suc j)) l
-mask-bit l j f = mask-from-bit l 0 j f ∙ ap (λ (b : Bool). b || any? (eqb (suc j)) l) (no-bit j)
-
--- and the masks of a graph's nodes together, at each number that stands in a list
+-- the masks of a graph's nodes together have a one at each number that stands in a list
 named-bit : (xs : List Node) (own m j : ℕ) → own + length xs ≤ suc (suc width) → nodesFormed own xs ≡ true
     → bit (namedFrom m xs) j ≡ bit m j || followed xs (suc j)
 unfolding namedFrom followed

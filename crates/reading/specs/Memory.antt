@@ -9,7 +9,7 @@ use Rattle.table.specs.declared.Table.{Table}
 use Rattle.table.specs.declared.Graph.{Graph}
 use Rattle.table.specs.declared.Node.{Node}
 use Rattle.table.specs.Fresh.{noGraph, noNode, emptyTable}
-use Rattle.reading.specs.Masks.{maskOf, listOf}
+use Rattle.scanning.specs.Masks.{maskOf, listOf}
 
 abbrev pub codedNode : Rules.Node → Node
 codedNode x = record { budget = x .budget; level = x .level; after = maskOf (x .after) }

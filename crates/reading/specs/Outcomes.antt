@@ -4,56 +4,24 @@ use mathlib.Core.List.{List, [], _∷_}
 use Prim.Native.Nat.{ℕ, _+_, _-_}
 use lib.Bits.{bitOr}
 use lib.Dec.{eqb}
-use lib.ListN.{drop, set}
+use lib.ListN.{set}
 use Rattle.format.specs.declared.Refusal.the-variants.{AgainstPredecessorRules}
-use Rattle.format.specs.Keys as Keys
 use Rattle.schedule.specs.Table as Rules
-use Rattle.format.specs.Reading.{Place, Outcome, refused, done, _and-then_, numberLine, afterLine}
+use Rattle.format.specs.Reading.{Outcome, refused, done}
 use Rattle.numbers.specs.Masks.{unsetBelow}
 use Rattle.table.specs.declared.Table.{Table}
 use Rattle.table.specs.declared.Node.{Node}
-use Rattle.reading.specs.declared.tables.Place.{Place as Spot}
-use Rattle.reading.specs.declared.tables.LineRead.{LineRead}
-use Rattle.reading.specs.declared.tables.LineRead.the-variants as LineRead
-use Rattle.reading.specs.declared.tables.Three.{Three}
-use Rattle.reading.specs.declared.tables.ThreeRead.{ThreeRead}
-use Rattle.reading.specs.declared.tables.ThreeRead.the-variants as ThreeRead
+use Rattle.scanning.specs.Masks.{maskOf}
+use Rattle.lines.specs.declared.numbering.Place.{Place as Spot}
+use Rattle.lines.specs.declared.numbering.Three.{Three}
+use Rattle.lines.specs.Numbered.{placeOf}
 use Rattle.reading.specs.declared.tables.NodeRead.{NodeRead}
 use Rattle.reading.specs.declared.tables.NodeRead.the-variants as NodeRead
 use Rattle.reading.specs.declared.tables.End.{End}
 use Rattle.reading.specs.declared.tables.End.the-variants as End
 use Rattle.reading.specs.declared.tables.NodesRead.{NodesRead}
 use Rattle.reading.specs.declared.tables.TableRead.{TableRead}
-use Rattle.reading.specs.Masks.{maskOf}
 use Rattle.reading.specs.Memory.{filled}
-
-module _ {A B : Type 0} where
-  abbrev pub mapOutcome : (A → B) → Outcome A → Outcome B
-  mapOutcome f (refused r) = refused r
-  mapOutcome f (done a p) = done (f a) p
-
-abbrev pub placeOf : List ℕ → Spot → Place
-placeOf s p = record { line = p .line; bytes = drop (p .at) s }
-
--- the line of key k, whose value code holds as a number or a mask
-abbrev pub codedLine : ℕ → ℕ → Place → Outcome ℕ
-codedLine k own p = cond (eqb k Keys.after) (mapOutcome maskOf (afterLine own p)) (numberLine k p)
-
-abbrev pub lineReadOf : List ℕ → LineRead → Outcome ℕ
-lineReadOf s (LineRead.Value v p) = done v (placeOf s p)
-lineReadOf s (LineRead.Refused r) = refused r
-
--- three lines, of key k and the two behind it
-unfoldable pub threeLines : ℕ → ℕ → Place → Outcome Three
-threeLines k own p =
-    codedLine k own p and-then λ a p.
-    codedLine (k + 1) own p and-then λ b p.
-    codedLine (k + 2) own p and-then λ c p.
-    done (record { first = a; second = b; third = c }) p
-
-abbrev pub threeReadOf : List ℕ → ThreeRead → Outcome Three
-threeReadOf s (ThreeRead.Values t p) = done t (placeOf s p)
-threeReadOf s (ThreeRead.Refused r) = refused r
 
 abbrev pub nodeReadOf : List ℕ → NodeRead → Outcome Node
 nodeReadOf s (NodeRead.One x p) = done x (placeOf s p)

@@ -1,6 +1,6 @@
 // The instant that a caller spells: a number as a table has it, with nothing before it and nothing after it.
-use crate::scanning::Scanned;
-use crate::scanning::number_at;
+use scanning::Scanned;
+use scanning::number_at;
 ghost use mathlib.Core.Path.{_≡_};
 ghost use Rattle.reading.specs.Instants.{instantOf};
 

@@ -1,11 +1,12 @@
 // The lines one after another: three for a table's head, for a graph's and for each node; then the table, or refusal 1 to 4.
-use crate::lines::AFTER;
-use crate::lines::BUDGET;
-use crate::lines::Line;
-use crate::lines::PERIOD;
-use crate::lines::PROCESSORS;
-use crate::reader::line_at;
 use format::Refusal;
+use lines::BUDGET;
+use lines::PERIOD;
+use lines::PROCESSORS;
+use lines::Place;
+use lines::Three;
+use lines::ThreeRead;
+use lines::three_at;
 use table::Graph;
 use table::Node;
 use table::Table;
@@ -14,30 +15,8 @@ ghost use Prim.Native.Nat.{_+_, _-_, _*_, _^_, _<_, _≤_};
 ghost use Rattle.schedule.specs.Limits as Limits;
 ghost use Rattle.format.specs.Reading.{_and-then_, node, nodesFrom, graphNodes, graph, graphsFrom, ended, readOf};
 ghost use Rattle.reading.specs.Memory.{codedNode, withGraph, withGraphs, memoryOf};
-ghost use Rattle.reading.specs.Outcomes.{mapOutcome, placeOf, codedLine, lineReadOf, threeLines, threeReadOf, nodeReadOf, taken, nodesReadOf, addedGraph, endedGraph, tableReadOf};
-
-// Where reading stands: the number of the next line, and its position.
-pub struct Place {
-    pub line: u32,
-    pub at: usize,
-}
-
-pub enum LineRead {
-    Value(u32, Place),
-    Refused(Refusal),
-}
-
-// The values of three lines.
-pub struct Three {
-    pub first: u32,
-    pub second: u32,
-    pub third: u32,
-}
-
-pub enum ThreeRead {
-    Values(Three, Place),
-    Refused(Refusal),
-}
+ghost use Rattle.lines.specs.Numbered.{mapOutcome, placeOf, codedLine, lineReadOf, threeLines, threeReadOf};
+ghost use Rattle.reading.specs.Outcomes.{nodeReadOf, taken, nodesReadOf, addedGraph, endedGraph, tableReadOf};
 
 pub enum NodeRead {
     One(Node, Place),
@@ -62,58 +41,8 @@ pub struct TableRead {
     pub end: End,
 }
 
-// The line of key k, with its number.
-pub fn line_read(s: &[u8], place: Place, k: usize, own: u32) -> LineRead
-    requires { ⌜ place .line + 1 < 2 ^ 32 ⌝ }
-    ensures { λ r. ⌜ lineReadOf (now (s .entry)) r ≡ codedLine k own (placeOf (now (s .entry)) place) ⌝ }
-{
-    let line = place.line;
-    let at = place.at;
-    match line_at(s, at, k, own) {
-        Line::Value(v, p) => LineRead::Value(
-            v,
-            Place {
-                line: line + 1,
-                at: p,
-            },
-        ),
-        Line::Misspelled(_) => LineRead::Refused(Refusal::Misspelled { line }),
-        Line::Unfair => {
-            if k == AFTER {
-                LineRead::Refused(Refusal::AgainstPredecessorRules { line })
-            } else {
-                LineRead::Refused(Refusal::OutsideLimits { line })
-            }
-        }
-    }
-}
-
-// The lines of key k and of the two keys behind it.
-pub fn three_at(s: &[u8], place: Place, k: usize, own: u32) -> ThreeRead
-    requires { ⌜ (place .line + 3 < 2 ^ 32) × (k + 2 < 2 ^ 64) ⌝ }
-    ensures { λ r. ⌜ threeReadOf (now (s .entry)) r ≡ threeLines k own (placeOf (now (s .entry)) place) ⌝ }
-{
-    match line_read(s, place, k, own) {
-        LineRead::Refused(f) => ThreeRead::Refused(f),
-        LineRead::Value(first, p) => match line_read(s, p, k + 1, own) {
-            LineRead::Refused(f) => ThreeRead::Refused(f),
-            LineRead::Value(second, q) => match line_read(s, q, k + 2, own) {
-                LineRead::Refused(f) => ThreeRead::Refused(f),
-                LineRead::Value(third, r) => ThreeRead::Values(
-                    Three {
-                        first,
-                        second,
-                        third,
-                    },
-                    r,
-                ),
-            },
-        },
-    }
-}
-
 pub fn node_at(s: &[u8], place: Place, own: u32) -> NodeRead
-    requires { ⌜ place .line + 3 < 2 ^ 32 ⌝ }
+    requires { ⌜ (place .line + 3 < 2 ^ 32) × (own ≤ Limits.nodes .to) ⌝ }
     ensures { λ r. ⌜ nodeReadOf (now (s .entry)) r ≡ mapOutcome codedNode (node own (placeOf (now (s .entry)) place)) ⌝ }
 {
     match three_at(s, place, BUDGET, own) {
@@ -137,7 +66,7 @@ pub fn nodes_at(
     first: usize,
     n: u32,
 ) -> NodesRead
-    requires { ⌜ (first + n ≤ Limits.allNodes .to) × (place .line + 3 * n < 2 ^ 32) ⌝ }
+    requires { ⌜ (first + n ≤ Limits.allNodes .to) × (n ≤ Limits.nodes .to) × (place .line + 3 * n < 2 ^ 32) ⌝ }
     ensures { λ r. ⌜ nodesReadOf (now (s .entry)) r ≡ mapOutcome (taken nodes first 0) (nodesFrom 1 n (placeOf (now (s .entry)) place)) ⌝ }
 {
     let mut list = nodes;

@@ -6,9 +6,9 @@ use native.Mathlib.Omega.{arith}
 use Rattle.schedule.specs.Table.{Table}
 use Rattle.rules.specs.Admission.{Admission, admitted, refused, admissionOf}
 use Rattle.format.specs.declared.Refusal.{Refusal}
-use Rattle.reading.specs.Admission.{codedAdmission}
-use Rattle.reading.specs.declared.admission.Admitted.{Admitted}
-use Rattle.reading.specs.declared.admission.Verdict.the-variants.{Passed, Refused}
+use Rattle.admission.specs.Admission.{codedAdmission}
+use Rattle.admission.specs.declared.admitting.Admitted.{Admitted}
+use Rattle.admission.specs.declared.admitting.Verdict.the-variants.{Passed, Refused}
 
 pub record Passes (bytes : List ℕ) (r : Admitted) : Type 0 where
   pub table : Table

@@ -10,7 +10,7 @@ use Rattle.schedule.specs.Servers.{boxOf}
 use Rattle.rules.specs.Admission.{Admission, admitted, refused, admissionOf}
 use Rattle.rules.specs.Answers.{refuses, rowOf, rowOn}
 use Rattle.schedule.proofs.Tests.{by-lt}
-use Rattle.reading.specs.Positions.{far, kept}
+use Rattle.scanning.specs.Positions.{far, kept}
 use Rattle.walking.proofs.Walked.{stop}
 use Rattle.sheet.proofs.Room.{in-time}
 use Rattle.sheet.proofs.RowCalls.{rules-row, refused-row}

@@ -22,8 +22,8 @@ use Rattle.walking.proofs.Ends.{howOf}
 use Rattle.walking.proofs.Walked.{stop, AtStop}
 use Rattle.sheet.specs.Figures.{figuresOf}
 use Rattle.sheet.specs.Walks.{Walkable, walkOfTable, stopOf}
-use Rattle.reading.specs.Admission.{codedAdmission}
-use Rattle.reading.specs.declared.admission.Admitted.{Admitted}
+use Rattle.admission.specs.Admission.{codedAdmission}
+use Rattle.admission.specs.declared.admitting.Admitted.{Admitted}
 use Rattle.walking.specs.declared.Walk.{Walk}
 use Rattle.sheet.proofs.Admissions.{Passes}
 use Rattle.sheet.proofs.TableWalks.{X, M, a, walkable, few-graphs, table-walked, figures-are}

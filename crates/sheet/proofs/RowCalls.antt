@@ -17,8 +17,8 @@ use Rattle.format.specs.declared.Refusal.{Refusal}
 use Rattle.format.specs.declared.Refusal.the-variants.{PastTheStop}
 use Rattle.schedule.proofs.Tests.{either-way}
 use Rattle.theorems.proofs.FirstStop.{stops-in-time}
-use Rattle.reading.specs.Admission.{codedAdmission}
-use Rattle.reading.specs.declared.admission.Admitted.{Admitted}
+use Rattle.admission.specs.Admission.{codedAdmission}
+use Rattle.admission.specs.declared.admitting.Admitted.{Admitted}
 use Rattle.window.specs.Entries.{lastKey}
 use Rattle.planning.specs.Plans.{planOf}
 use Rattle.planning.specs.Offsets.{offsetsOf}

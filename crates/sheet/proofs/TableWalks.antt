@@ -24,8 +24,8 @@ use Rattle.window.specs.Entries.{places}
 use Rattle.window.proofs.Loops.{replaced-length, replaced-in}
 use Rattle.window.proofs.Relation.{InStep}
 use Rattle.reading.specs.Memory.{memoryOf}
-use Rattle.reading.specs.Admission.{codedAdmission}
-use Rattle.reading.specs.declared.admission.Admitted.{Admitted}
+use Rattle.admission.specs.Admission.{codedAdmission}
+use Rattle.admission.specs.declared.admitting.Admitted.{Admitted}
 use Rattle.planning.specs.Plans.{planOf}
 use Rattle.planning.specs.Offsets.{offsetsOf}
 use Rattle.planning.proofs.Located.{graphAt, firstOf, first-within}

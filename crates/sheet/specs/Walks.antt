@@ -2,7 +2,7 @@
 use Prim.Native.Nat.{ℕ, _+_, _*_, _≤_}
 use Rattle.schedule.specs.Limits as Limits
 use Rattle.schedule.specs.Walk.{Stop, settled, unsettled, backlog}
-use Rattle.reading.specs.declared.admission.Admitted.{Admitted}
+use Rattle.admission.specs.declared.admitting.Admitted.{Admitted}
 use Rattle.planning.specs.Plans.{planOf}
 use Rattle.planning.specs.Offsets.{offsetsOf, largestOffsetOf}
 use Rattle.walking.specs.declared.How.{How}

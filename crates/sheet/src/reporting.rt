@@ -1,8 +1,8 @@
 // The report of a table: the walk to its stop, and the text of its figures in the lent buffer.
 use crate::figures::figures_of;
 use crate::walks::walked;
+use admission::Verdict;
 use format::Refusal;
-use reading::Verdict;
 use rules::Answer;
 use table::Table;
 use walking::How;
@@ -58,7 +58,7 @@ pub fn report(table: &[u8], buffer: &mut [u8]) -> Answer
     ensures call { λ r. ⌜ called r (now (buffer .exit)) ≡ callOf (now (buffer .entry)) (reportOf (now (table .entry))) ⌝ }
     ensures least_true { λ r. ⌜ (answerNumber r ≡ 0 → TrueReport (now (table .entry))) ⌝ }
 {
-    let a = reading::admit(table);
+    let a = admission::admit(table);
     let verdict = a.verdict;
     match verdict {
         Verdict::Refused(r) => Answer::Refused(r),

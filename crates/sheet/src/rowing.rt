@@ -1,7 +1,7 @@
 // The row of a table at an instant: the walk to that instant, and the text of what runs there in the lent buffer.
 use crate::walks::walked;
+use admission::Verdict;
 use format::Refusal;
-use reading::Verdict;
 use rules::Answer;
 use table::Table;
 use walking::How;
@@ -64,7 +64,7 @@ pub fn row_walk(table: Table, w: Walk, buffer: &mut [u8]) -> Answer
 pub fn row(table: &[u8], instant: u64, buffer: &mut [u8]) -> Answer
     ensures { λ r. ⌜ called r (now (buffer .exit)) ≡ callOf (now (buffer .entry)) (rowOf (now (table .entry)) instant) ⌝ }
 {
-    let a = reading::admit(table);
+    let a = admission::admit(table);
     let verdict = a.verdict;
     match verdict {
         Verdict::Refused(r) => Answer::Refused(r),

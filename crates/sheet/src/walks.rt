@@ -1,5 +1,5 @@
 // The walk of an admitted table.
-use reading::Admitted;
+use admission::Admitted;
 use walking::Walk;
 ghost use mathlib.Core.Path.{_≡_};
 ghost use Rattle.sheet.specs.Walks.{Walkable, walkOfTable};

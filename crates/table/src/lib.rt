@@ -290,17 +290,27 @@ impl Table {
         }
     }
 
-    // Key number k, from 0; past the last one a key without a name.
+    // Key number k, from 0; past the last one a key without a name. At a constant index the compiler takes the one entry and does not
+    // build the table.
     pub fn key(k: usize) -> Key
         ensures { λ r. ⌜ r ≡ codedKey (keyAt k) ⌝ }
     {
-        if k < Table::KEY_COUNT {
-            return Table::KEYS[k];
-        }
-        Key {
-            name: [0u8; Table::NAME_LENGTH],
-            length: 0,
-            range: Range { from: 0, to: 0 },
+        let keys = Table::KEYS;
+        match k {
+            0 => keys[0],
+            1 => keys[1],
+            2 => keys[2],
+            3 => keys[3],
+            4 => keys[4],
+            5 => keys[5],
+            6 => keys[6],
+            7 => keys[7],
+            8 => keys[8],
+            _ => Key {
+                name: [0u8; Table::NAME_LENGTH],
+                length: 0,
+                range: Range { from: 0, to: 0 },
+            },
         }
     }
 

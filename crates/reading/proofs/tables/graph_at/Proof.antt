@@ -9,9 +9,9 @@ use Rattle.rules.proofs.Outcomes.{told}
 use Rattle.format.specs.Keys as Keys
 use Rattle.format.specs.Keys.{keys}
 use Rattle.schedule.specs.Limits as Limits
-use Rattle.reading.specs.Outcomes.{placeOf, threeReadOf}
+use Rattle.lines.specs.Numbered.{placeOf, threeReadOf}
 use Rattle.reading.proofs.Graphs.{graph-three}
-use Rattle.reading.proofs.Runs.{three-holds}
+use Rattle.lines.proofs.NumberedLaws.{three-holds}
 use Rattle.reading.proofs.tables.graph_at.Statement.{statement}
 use Rattle.reading.proofs.tables.graph_at.Tie as tie
 

@@ -8,7 +8,8 @@ use Rattle.rules.proofs.Outcomes.{told}
 use Rattle.rules.proofs.ReadWellFormed.{nodes-holds}
 use Rattle.format.specs.Reading.{node, nodesFrom}
 use Rattle.reading.specs.Memory.{withGraph}
-use Rattle.reading.specs.Outcomes.{mapOutcome, placeOf, endOf, Taken, taken, tableReadOf}
+use Rattle.lines.specs.Numbered.{mapOutcome, placeOf}
+use Rattle.reading.specs.Outcomes.{endOf, Taken, taken, tableReadOf}
 use Rattle.reading.proofs.Graphs.{nodes-over, nodes-refused, nodes-done, ended-graph}
 use Rattle.reading.proofs.Images.{image-done, image-refused}
 use Rattle.reading.proofs.tables.graph_nodes.Statement.{statement}
@@ -33,7 +34,7 @@ returns c =
     sym (ap (mapOutcome (withGraph t)) (nodes-over (t .nodes) (h .first) (h .second) (h .third) (a .place .line - 1) P (omega arith)))
 
 nodes-at-requires : tie.Need-nodes-at-requires
-nodes-at-requires c κs = (omega arith, omega arith)
+nodes-at-requires c κs = (omega arith, omega arith, omega arith)
 
 enum-known-end : tie.Need-enum-known-end
 enum-known-end c = search needs

@@ -12,7 +12,8 @@ use Rattle.schedule.specs.Limits as Limits
 use Rattle.format.specs.Reading.{graph, graphsFrom, table}
 use Rattle.table.specs.declared.Table.{Table as Memory}
 use Rattle.reading.specs.Memory.{withGraph, withGraphs}
-use Rattle.reading.specs.Outcomes.{mapOutcome, placeOf, endOf}
+use Rattle.lines.specs.Numbered.{mapOutcome, placeOf}
+use Rattle.reading.specs.Outcomes.{endOf}
 use Rattle.reading.proofs.Graphs.{graphs-one, graphs-refused, graphs-none}
 use Rattle.reading.proofs.Images.{image-done, image-refused}
 use Rattle.reading.proofs.tables.graphs_at.Statement.{statement}

@@ -3,7 +3,7 @@ use mathlib.Core.Path.{sym, _∙_, ap}
 use Prim.Native.Nat.{_-_}
 use denote.Ref.{now}
 use borrow.Author.Needs.{needs}
-use Rattle.reading.specs.Outcomes.{mapOutcome, placeOf, threeReadOf}
+use Rattle.lines.specs.Numbered.{mapOutcome, placeOf, threeReadOf}
 use Rattle.reading.proofs.Runs.{rowOf, node-three}
 use Rattle.reading.proofs.tables.node_at.Statement.{statement}
 use Rattle.reading.proofs.tables.node_at.Tie as tie

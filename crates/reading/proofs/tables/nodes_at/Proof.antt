@@ -11,7 +11,8 @@ use Rattle.rules.proofs.ReadWellFormed.{node-holds}
 use Rattle.format.specs.Reading.{node, nodesFrom}
 use Rattle.table.specs.declared.Node.{Node as Row}
 use Rattle.reading.specs.Memory.{codedNode}
-use Rattle.reading.specs.Outcomes.{mapOutcome, placeOf, nodeReadOf, taken}
+use Rattle.lines.specs.Numbered.{mapOutcome, placeOf}
+use Rattle.reading.specs.Outcomes.{nodeReadOf, taken}
 use Rattle.reading.proofs.Images.{image-done, image-refused}
 use Rattle.reading.proofs.Runs.{nodes-one, nodes-stop, nodes-none}
 use Rattle.reading.proofs.tables.nodes_at.Statement.{statement}
@@ -30,7 +31,7 @@ loop-holds c =
     (search needs, search needs, search needs, search needs, rw e)
 
 node-at-requires : tie.Need-node-at-requires Inv-loop μ-loop
-node-at-requires c κs = omega arith
+node-at-requires c κs = (omega arith, omega arith)
 
 enum-known-f : tie.Need-enum-known-f Inv-loop μ-loop
 enum-known-f c = search needs

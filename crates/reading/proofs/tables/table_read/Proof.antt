@@ -14,9 +14,9 @@ use Rattle.schedule.specs.Limits as Limits
 use Rattle.format.specs.Reading.{Place, Outcome, _and-then_, graphsFrom, ended, readOf}
 use Rattle.table.specs.declared.Table.{Table as Memory}
 use Rattle.reading.specs.Memory.{withGraphs}
-use Rattle.reading.specs.Outcomes.{mapOutcome, placeOf, threeReadOf}
+use Rattle.lines.specs.Numbered.{mapOutcome, placeOf, threeReadOf}
 use Rattle.reading.proofs.Graphs.{table-three, ended-map}
-use Rattle.reading.proofs.Runs.{three-holds}
+use Rattle.lines.proofs.NumberedLaws.{three-holds}
 use Rattle.reading.proofs.tables.table_read.Statement.{statement}
 use Rattle.reading.proofs.tables.table_read.Tie as tie
 

@@ -1,0 +1,14 @@
+-- `refused` meets its contract.
+use Prim.Native.Nat.{_-_}
+use borrow.Author.Needs.{needs}
+use Rattle.admission.proofs.admitting.refused.Statement.{statement}
+use Rattle.admission.proofs.admitting.refused.Tie as tie
+
+empty-requires : tie.Need-empty-requires
+empty-requires c κs = search needs
+
+returns : tie.Need-returns
+returns c = rw (c .empty .ensures)
+
+pub refused-spec : {M : Type 1} → statement M
+refused-spec = tie.close (tie.spec empty-requires returns)

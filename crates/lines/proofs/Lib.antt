@@ -1,0 +1,3 @@
+pub mod KeyLaws
+pub mod LineLaws
+pub mod NumberedLaws

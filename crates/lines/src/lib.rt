@@ -1,0 +1,12 @@
+// Lines: the expected key, a value, LF, each judged; the reader that goes from line to line of a lent text; and lines with their numbers.
+mod judging;
+mod numbering;
+mod reader;
+
+pub use judging::BUDGET;
+pub use judging::PERIOD;
+pub use judging::PROCESSORS;
+pub use numbering::Place;
+pub use numbering::Three;
+pub use numbering::ThreeRead;
+pub use numbering::three_at;

@@ -1,0 +1,5 @@
+pub mod ScannerLaws
+pub mod Images
+pub mod Predecessors
+pub mod MaskBits
+pub mod Members
