@@ -33,3 +33,4 @@ pub mod TableBox
 pub mod LeastTrue
 pub mod Decimal
 pub mod TrueReports
+pub mod CutTables
