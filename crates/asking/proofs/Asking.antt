@@ -7,8 +7,8 @@ use native.Mathlib.Omega.{arith}
 use lib.Dec.{eqb, leb}
 use lib.ListN.{length, take, getD}
 use borrow.Author.Tests.{le-leb, lt-leb, ne-eqb}
-use Rattle.rules.specs.Spelling.{text}
-use Rattle.rules.proofs.Tests.{by-test, by-lt}
+use Rattle.format.specs.Spelling.{text}
+use Rattle.schedule.proofs.Tests.{by-test, by-lt}
 use Rattle.reading.specs.Positions.{foundOf}
 use Rattle.reading.specs.declared.scanning.Found.{Found}
 use Rattle.reading.specs.declared.scanning.Found.the-variants as Found

@@ -6,8 +6,8 @@ use Prim.Native.Nat.{ℕ, zero, suc, _<_}
 use native.Mathlib.Omega.{arith}
 use lib.Dec.{T, eqb}
 use lib.ListN.{length, getD}
-use Rattle.rules.specs.Lists.{all?}
-use Rattle.rules.proofs.Tests.{and-l, and-r}
+use Rattle.schedule.specs.Lists.{all?}
+use Rattle.schedule.proofs.Tests.{and-l, and-r}
 use Rattle.asking.specs.declared.instants.Spelled.{Spelled}
 use Rattle.asking.specs.declared.instants.Spelled.the-variants.{Nothing}
 use Rattle.asking.specs.declared.arguments.Passed.{Passed}

@@ -5,9 +5,9 @@ use mathlib.Core.List.{List, [], _∷_}
 use Prim.Native.Nat.{ℕ, _+_, _*_}
 use native.Mathlib.Omega.{arith}
 use lib.Dec.{eqb}
-use Rattle.rules.specs.Bytes.{digitZero, isDigit, valueOf}
-use Rattle.rules.specs.Spelling.{read, digits, number}
-use Rattle.rules.proofs.Tests.{by-test}
+use Rattle.format.specs.Bytes.{digitZero, isDigit, valueOf}
+use Rattle.format.specs.Spelling.{read, digits, number}
+use Rattle.schedule.proofs.Tests.{by-test}
 use Rattle.reading.specs.Positions.{kept, capped}
 use Rattle.reading.proofs.Scanners.{digit-value}
 use Rattle.asking.specs.declared.instants.Instant.the-variants.{Misspelled}

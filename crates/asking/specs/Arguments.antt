@@ -3,7 +3,7 @@ use mathlib.Core.Bool.{Bool, not, cond}
 use mathlib.Core.List.{List, [], _∷_, _++_, foldl}
 use Prim.Native.Nat.{ℕ, zero, suc}
 use lib.Dec.{eqb}
-use Rattle.rules.specs.Lists.{all?}
+use Rattle.schedule.specs.Lists.{all?}
 use Rattle.asking.specs.declared.instants.Instant.{Instant}
 use Rattle.asking.specs.declared.instants.Instant.the-variants.{Unread}
 use Rattle.asking.specs.declared.instants.Spelled.{Spelled}

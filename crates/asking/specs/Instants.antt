@@ -3,8 +3,8 @@ use mathlib.Core.Bool.{Bool, true, false, cond}
 use mathlib.Core.List.{List, [], _∷_, foldl}
 use Prim.Native.Nat.{ℕ, _+_, _*_}
 use lib.Dec.{eqb}
-use Rattle.rules.specs.Bytes.{digitZero, isDigit, valueOf}
-use Rattle.rules.specs.Spelling.{Scan, read, wrong, number}
+use Rattle.format.specs.Bytes.{digitZero, isDigit, valueOf}
+use Rattle.format.specs.Spelling.{Scan, read, wrong, number}
 use Rattle.reading.specs.Positions.{kept, capped}
 use Rattle.asking.specs.declared.instants.Instant.{Instant}
 use Rattle.asking.specs.declared.instants.Instant.the-variants.{At, Misspelled}

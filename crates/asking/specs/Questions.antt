@@ -5,8 +5,8 @@ use mathlib.Core.List.{List, [], _∷_}
 use Prim.Native.Nat.{ℕ, suc}
 use lib.Dec.{eqb, leb}
 use lib.ListN.{length, take, getD}
-use Rattle.rules.specs.Bytes.{bytes}
-use Rattle.rules.specs.Spelling.{Scan, read, wrong, text}
+use Rattle.format.specs.Bytes.{bytes}
+use Rattle.format.specs.Spelling.{Scan, read, wrong, text}
 use Rattle.asking.specs.declared.instants.Instant.{Instant}
 use Rattle.asking.specs.declared.instants.Instant.the-variants.{At, Misspelled, Unread}
 use Rattle.asking.specs.declared.questions.Question.the-variants.{Report, Row}

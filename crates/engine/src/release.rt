@@ -8,7 +8,7 @@ ghost use mathlib.Core.Path.{_≡_};
 ghost use mathlib.Core.Bool.{_&&_, _||_, true, cond};
 ghost use Prim.Native.Nat.{_≤_, _<_, min};
 ghost use lib.Dec.{leb, eqb};
-ghost use Rattle.rules.specs.Limits as Limits;
+ghost use Rattle.schedule.specs.Limits as Limits;
 ghost use Rattle.window.specs.Entries.{places, window, nodesOf};
 ghost use Rattle.window.specs.Releasing as Mirror;
 ghost use Rattle.window.specs.Ticking as Tick;

@@ -5,7 +5,7 @@ ghost use mathlib.Core.Path.{_≡_};
 ghost use mathlib.Core.List.{List};
 ghost use Prim.Native.Nat.{ℕ, _≤_, _<_};
 ghost use lib.ListN.{length};
-ghost use Rattle.rules.specs.Limits.{tableBytes};
+ghost use Rattle.schedule.specs.Limits.{tableBytes};
 ghost use Rattle.rules.specs.Answers.{printed, callOf};
 ghost use Rattle.writing.specs.Lengths.{longestRow};
 ghost use Rattle.writing.specs.Written.{Written};

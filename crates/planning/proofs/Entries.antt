@@ -8,9 +8,9 @@ use native.Mathlib.Omega.{arith}
 use lib.Dec.{eqb}
 use lib.ListN.{length, getD}
 use borrow.Author.Tests.{le-leb}
-use Rattle.rules.specs.Limits as Limits
-use Rattle.rules.specs.Table as Rules
-use Rattle.rules.proofs.Tests.{by-lt}
+use Rattle.schedule.specs.Limits as Limits
+use Rattle.schedule.specs.Table as Rules
+use Rattle.schedule.proofs.Tests.{by-lt}
 use Rattle.table.specs.declared.Table.{Table}
 use Rattle.window.specs.declared.Plan.{Plan}
 use Rattle.window.specs.Entries.{places, noWork, workAt, levelAt, periodAt, stepAt}

@@ -4,7 +4,7 @@ use mathlib.Core.List.{List}
 use Prim.Native.Nat.{ℕ, zero, suc, _+_, _*_, min}
 use lib.Dec.{leb, eqb}
 use lib.ListN.{getD, replicate}
-use Rattle.rules.specs.Limits as Limits
+use Rattle.schedule.specs.Limits as Limits
 use Rattle.table.specs.declared.Table.{Table}
 use Rattle.table.specs.declared.Graph.{Graph}
 use Rattle.table.specs.declared.Node.{Node}

@@ -8,9 +8,9 @@ use native.Mathlib.Omega.{arith}
 use lib.Dec.{ltb}
 use lib.ListN.{length, getD, set, take, length-set}
 use lib.Seq.{take-suc-set}
-use Rattle.rules.specs.Limits as Limits
-use Rattle.rules.specs.Walk.{Running}
-use Rattle.rules.proofs.Tests.{either-way, dec}
+use Rattle.schedule.specs.Limits as Limits
+use Rattle.schedule.specs.Walk.{Running}
+use Rattle.schedule.proofs.Tests.{either-way, dec}
 use Rattle.table.specs.declared.State.{State}
 use Rattle.window.specs.declared.Plan.{Plan}
 use Rattle.window.specs.Entries.{lastKey}

@@ -6,10 +6,10 @@ use native.Mathlib.Nat.{zero-add}
 use native.Mathlib.Omega.{arith}
 use lib.ListN.{length, getD}
 use borrow.Author.Tests.{lt-ltb}
-use Rattle.rules.specs.Lists.{joined}
-use Rattle.rules.specs.Servers.{srv, Box, whole}
-use Rattle.rules.specs.Walk.{rowAt}
-use Rattle.rules.proofs.Tests.{either-way}
+use Rattle.schedule.specs.Lists.{joined}
+use Rattle.schedule.specs.Servers.{srv, Box, whole}
+use Rattle.schedule.specs.Walk.{rowAt}
+use Rattle.schedule.proofs.Tests.{either-way}
 use Rattle.table.specs.declared.State.{State}
 use Rattle.window.specs.declared.Plan.{Plan}
 use Rattle.window.specs.Entries.{lastKey}

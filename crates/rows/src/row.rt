@@ -7,7 +7,7 @@ use writing::Row;
 use writing::Run;
 ghost use mathlib.Core.Path.{_≡_};
 ghost use Prim.Native.Nat.{_≤_, _<_};
-ghost use Rattle.rules.specs.Limits as Limits;
+ghost use Rattle.schedule.specs.Limits as Limits;
 ghost use Rattle.window.specs.Ticking.{running};
 ghost use Rattle.rows.specs.Showing as Mirror;
 

@@ -7,11 +7,12 @@ use native.Mathlib.Omega.{arith}
 use lib.ListN.{length, take}
 use lib.Seq.{take-all, length-take-le}
 use borrow.Author.Tests.{lt-leb}
-use Rattle.rules.specs.declared.Refusal.the-variants.{TooLong}
-use Rattle.rules.specs.Limits as Limits
-use Rattle.rules.specs.Reading.{refused, readOf, admitRead, admissionOf}
+use Rattle.format.specs.declared.Refusal.the-variants.{TooLong}
+use Rattle.schedule.specs.Limits as Limits
+use Rattle.format.specs.Reading.{readOf, refused}
+use Rattle.rules.specs.Admission.{admitRead, admissionOf}
 use Rattle.rules.specs.Answers.{reportOf, rowOf, reportAdmitted, rowAdmitted, wholeWalk}
-use Rattle.rules.proofs.Tests.{by-lt}
+use Rattle.schedule.proofs.Tests.{by-lt}
 
 too-long : (s : List ℕ) → Limits.tableBytes .to < length s → readOf s ≡ refused TooLong
 unfolding readOf

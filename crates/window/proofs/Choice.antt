@@ -11,13 +11,13 @@ use lib.Dec.{T, leb, ltb, leb→le, ltb→lt, le→leb, lt→ltb}
 use lib.ListN.{length, getD, set, take, replicate, length-set, length-replicate, getD-replicate}
 use lib.Seq.{take-suc, take-length, take-set-le, getD-set-same, getD-set-other}
 use borrow.Author.Tests.{lt-ltb, le-ltb}
-use Rattle.rules.specs.Limits as Limits
-use Rattle.rules.specs.Lists.{one?, count}
-use Rattle.rules.proofs.Tests.{by-lt, bool-ext, one-le-one}
-use Rattle.rules.proofs.Counts.{count-mono}
+use Rattle.schedule.specs.Limits as Limits
+use Rattle.schedule.specs.Lists.{one?, count}
+use Rattle.schedule.proofs.Tests.{by-lt, bool-ext, one-le-one}
+use Rattle.theorems.proofs.Counts.{count-mono}
 use Rattle.window.specs.Entries.{lastKey}
 use Rattle.window.specs.Choosing.{Carried, carriedAt, carriedTo, inserted, chosen}
-use Rattle.rules.proofs.Counts.{count-append}
+use Rattle.theorems.proofs.Counts.{count-append}
 
 -- how many keys are below x
 unfoldable pub below : List ℕ → ℕ → ℕ

@@ -8,20 +8,20 @@ use native.Mathlib.Omega.{arith}
 use lib.Dec.{T, ltb, eqb, eqb→eq}
 use lib.ListN.{length}
 use borrow.Author.Tests.{lt-ltb, le-ltb, eq-eqb, ne-eqb}
-use Rattle.rules.specs.Lists.{one?, count, joined}
-use Rattle.rules.specs.Servers.{Server, srv, Box}
-use Rattle.rules.specs.ServerJobs.{ServerJob, jobsFrom, readyJobs, used}
-use Rattle.rules.proofs.Tests.{by-lt, either-way, dec, true-T, one-of, one-le-one, eq→eqb}
-use Rattle.rules.proofs.Counts.{serverJob, count-none}
-use Rattle.rules.proofs.Releases.{priority-grows}
-use Rattle.rules.proofs.InTurn.{completed}
+use Rattle.schedule.specs.Lists.{one?, count, joined}
+use Rattle.schedule.specs.Servers.{Server, srv, Box}
+use Rattle.schedule.specs.ServerJobs.{ServerJob, jobsFrom, readyJobs, used}
+use Rattle.schedule.proofs.Tests.{by-lt, either-way, dec, true-T, one-of, one-le-one, eq→eqb}
+use Rattle.theorems.proofs.Counts.{serverJob, count-none}
+use Rattle.theorems.proofs.Releases.{priority-grows}
+use Rattle.theorems.proofs.InTurn.{completed}
 use Rattle.table.specs.declared.State.{State}
 use Rattle.window.specs.declared.Plan.{Plan}
 use Rattle.window.specs.Entries.{places}
 use Rattle.window.proofs.Relation.{lastInstant, Fits, Released}
 use Rattle.window.proofs.Choice.{below}
 use Rattle.window.proofs.Instants.{next-priority}
-use Rattle.rules.proofs.Counts.{count-append}
+use Rattle.theorems.proofs.Counts.{count-append}
 use Rattle.window.proofs.JobLists.{count-map}
 use Rattle.window.proofs.Keys.{keyOf, readySlots, keysIn, ready-jobs, keys-laid-out, Standing}
 

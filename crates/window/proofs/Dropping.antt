@@ -7,11 +7,11 @@ use native.Mathlib.Omega.{arith}
 use lib.Dec.{T, ltb, eqb, ltb→lt, eqb→eq}
 use lib.ListN.{length, getD, length-set}
 use lib.Seq.{getD-set-same, getD-set-other}
-use Rattle.rules.specs.Lists.{one?}
-use Rattle.rules.specs.Servers.{Server}
-use Rattle.rules.specs.ServerJobs.{priorityOf}
-use Rattle.rules.proofs.Tests.{by-lt, and-l, and-r, true-T, one-le-one}
-use Rattle.rules.proofs.LinkRows.{linkedUpTo, linked-last, linked-le}
+use Rattle.schedule.specs.Lists.{one?}
+use Rattle.schedule.specs.Servers.{Server}
+use Rattle.schedule.specs.ServerJobs.{priorityOf}
+use Rattle.schedule.proofs.Tests.{by-lt, and-l, and-r, true-T, one-le-one}
+use Rattle.theorems.proofs.LinkRows.{linkedUpTo, linked-last, linked-le}
 use Rattle.table.specs.declared.Server.{Server as Window}
 use Rattle.table.specs.declared.State.{State}
 use Rattle.window.specs.declared.Plan.{Plan}

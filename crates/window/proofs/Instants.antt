@@ -7,10 +7,10 @@ use native.Mathlib.Nat.{suc-mul, le-div-iff-mul-le}
 use native.Mathlib.Omega.{arith}
 use lib.Dec.{eqb}
 use borrow.Author.Tests.{lt-ltb, le-ltb, ne-eqb}
-use Rattle.rules.specs.Servers.{Server}
-use Rattle.rules.specs.ServerJobs.{releaseOf, released, releasedBefore, priorityOf}
-use Rattle.rules.proofs.Tests.{by-lt}
-use Rattle.rules.proofs.Releases.{releasedBefore-le, releasedBefore-one}
+use Rattle.schedule.specs.Servers.{Server}
+use Rattle.schedule.specs.ServerJobs.{releaseOf, released, releasedBefore, priorityOf}
+use Rattle.schedule.proofs.Tests.{by-lt}
+use Rattle.theorems.proofs.Releases.{releasedBefore-le, releasedBefore-one}
 
 module _ (s : Server) where
   pub next-release : (k : ℕ) → 1 ≤ k → releaseOf s (suc k) ≡ releaseOf s k + s .period

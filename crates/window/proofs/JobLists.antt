@@ -5,10 +5,10 @@ use mathlib.Core.List.{List, [], _∷_, _++_, append-assoc, append-nil, map}
 use Prim.Native.Nat.{ℕ, zero, suc, _+_, _-_, _≤_, _<_}
 use native.Mathlib.Omega.{arith}
 use lib.Dec.{T}
-use Rattle.rules.specs.Lists.{one?, count, keep, joined}
-use Rattle.rules.specs.ServerJobs.{ServerJob, jobsFrom}
-use Rattle.rules.proofs.Tests.{either-way, dec, true-T, T-true}
-use Rattle.rules.proofs.Counts.{serverJob}
+use Rattle.schedule.specs.Lists.{one?, count, keep, joined}
+use Rattle.schedule.specs.ServerJobs.{ServerJob, jobsFrom}
+use Rattle.schedule.proofs.Tests.{either-way, dec, true-T, T-true}
+use Rattle.theorems.proofs.Counts.{serverJob}
 
 module _ {A : Type 0} where
   pub keep-append : (p : A → Bool) (l r : List A) → keep p (l ++ r) ≡ keep p l ++ keep p r

@@ -8,13 +8,13 @@ use native.Mathlib.Nat.{le-refl}
 use native.Mathlib.Omega.{arith}
 use lib.Dec.{T, leb, ltb, leb→le, ltb→lt, le→leb, lt→ltb}
 use lib.ListN.{length}
-use Rattle.rules.specs.Lists.{count, keep, joined}
-use Rattle.rules.specs.Servers.{Server, srv, Box}
-use Rattle.rules.specs.ServerJobs.{ServerJob, jobsFrom, released, priorityOf, before, ready, readyJobs, rank, runs, used}
-use Rattle.rules.proofs.Tests.{and-l, and-r, and-i, by-lt, either-way, T-true, bool-ext}
-use Rattle.rules.proofs.Counts.{serverJob, count-keep}
-use Rattle.rules.proofs.Ready.{priority, before-is, is-before-lt, is-before-eq, ready-is}
-use Rattle.rules.proofs.InTurn.{no-budget, running, completed, ready-are-first}
+use Rattle.schedule.specs.Lists.{count, keep, joined}
+use Rattle.schedule.specs.Servers.{Server, srv, Box}
+use Rattle.schedule.specs.ServerJobs.{ServerJob, jobsFrom, released, priorityOf, before, ready, readyJobs, rank, runs, used}
+use Rattle.schedule.proofs.Tests.{and-l, and-r, and-i, by-lt, either-way, T-true, bool-ext}
+use Rattle.theorems.proofs.Counts.{serverJob, count-keep}
+use Rattle.theorems.proofs.Ready.{priority, before-is, is-before-lt, is-before-eq, ready-is}
+use Rattle.theorems.proofs.InTurn.{no-budget, running, completed, ready-are-first}
 use Rattle.table.specs.declared.State.{State}
 use Rattle.window.specs.declared.Plan.{Plan}
 use Rattle.window.specs.Entries.{places, lastKey, countAt, firstAt, levelAt, stepAt, nodesOf}

@@ -3,8 +3,8 @@ use mathlib.Core.Bool.{Bool}
 use mathlib.Core.List.{List, [], _∷_}
 use Prim.Native.Nat.{ℕ}
 use lib.Dec.{T, eqb, eqb→eq, eqb-refl}
-use Rattle.rules.specs.Lists.{any?, all?}
-use Rattle.rules.proofs.Tests.{and-l, and-r, and-i, or-l, or-r, or-e, either-way}
+use Rattle.schedule.specs.Lists.{any?, all?}
+use Rattle.schedule.proofs.Tests.{and-l, and-r, and-i, or-l, or-r, or-e, either-way}
 
 module _ (p : ℕ → Bool) where
   pub each-member : (l : List ℕ) (i : ℕ) → T (any? (eqb i) l) → T (all? p l) → T (p i)

@@ -9,14 +9,14 @@ use native.Mathlib.Decide.{ℕ-discrete}
 use lib.Dec.{T, leb, ltb, eqb, ltb→lt, lt→ltb, le→leb, eqb→eq}
 use lib.ListN.{length, length-set}
 use lib.Seq.{getD-set-same, getD-set-other}
-use Rattle.rules.specs.Limits as Limits
-use Rattle.rules.specs.Lists.{any?}
-use Rattle.rules.specs.Servers.{Server, srv, Box, whole}
-use Rattle.rules.specs.ServerJobs.{released, releasedBefore, priorityOf}
-use Rattle.rules.specs.Walk.{figure}
-use Rattle.rules.proofs.Tests.{and-l, and-r, and-i, or-l, or-r, by-lt, either-way, dec, T-true, true-T}
-use Rattle.rules.proofs.InTurn.{usedBy, used-out, completed, completed-le}
-use Rattle.rules.proofs.Linking.{linkOf, links-old, same-count}
+use Rattle.schedule.specs.Limits as Limits
+use Rattle.schedule.specs.Lists.{any?}
+use Rattle.schedule.specs.Servers.{Server, srv, Box, whole}
+use Rattle.schedule.specs.ServerJobs.{released, releasedBefore, priorityOf}
+use Rattle.schedule.specs.Walk.{figure}
+use Rattle.schedule.proofs.Tests.{and-l, and-r, and-i, or-l, or-r, by-lt, either-way, dec, T-true, true-T}
+use Rattle.theorems.proofs.InTurn.{usedBy, used-out, completed, completed-le}
+use Rattle.theorems.proofs.Linking.{linkOf, links-old, same-count}
 use Rattle.table.specs.declared.Server.{Server as Window}
 use Rattle.table.specs.declared.State.{State}
 use Rattle.window.specs.declared.Plan.{Plan}

@@ -8,13 +8,13 @@ use native.Mathlib.Nat.{add-mul, mul-comm}
 use native.Mathlib.Omega.{arith}
 use lib.Dec.{leb, ltb}
 use borrow.Author.Tests.{lt-ltb, le-ltb, le-leb, lt-leb}
-use Rattle.rules.specs.Lists.{largest, numbers, upTo}
-use Rattle.rules.specs.Servers.{Server, srv, Box, whole}
-use Rattle.rules.specs.ServerJobs.{releaseOf, released, releasedBefore, priorityOf, used}
-use Rattle.rules.specs.Links.{links}
-use Rattle.rules.specs.Walk.{responseAt, finishing, figure}
-use Rattle.rules.proofs.InTurn.{usedBy, completed, completed-le, is-complete, not-complete}
-use Rattle.rules.proofs.Linking.{linkOf}
+use Rattle.schedule.specs.Lists.{largest, numbers, upTo}
+use Rattle.schedule.specs.Servers.{Server, srv, Box, whole}
+use Rattle.schedule.specs.ServerJobs.{releaseOf, released, releasedBefore, priorityOf, used}
+use Rattle.schedule.specs.Links.{links}
+use Rattle.schedule.specs.Walk.{responseAt, finishing, figure}
+use Rattle.theorems.proofs.InTurn.{usedBy, completed, completed-le, is-complete, not-complete}
+use Rattle.theorems.proofs.Linking.{linkOf}
 use Rattle.window.specs.Entries.{places, lastKey}
 use Rattle.window.specs.Finishing.{responseOf}
 use Rattle.window.proofs.Spending.{left-over}

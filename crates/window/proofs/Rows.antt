@@ -7,11 +7,11 @@ use lib.Dec.{ltb, eqb}
 use lib.ListN.{length}
 use lib.Seq.{getD-set-same, getD-set-other}
 use borrow.Author.Tests.{lt-ltb, le-ltb, eq-eqb, ne-eqb}
-use Rattle.rules.specs.Lists.{one?}
-use Rattle.rules.specs.Servers.{Server}
-use Rattle.rules.specs.ServerJobs.{priorityOf}
-use Rattle.rules.proofs.Tests.{by-lt}
-use Rattle.rules.proofs.LinkRows.{linkedUpTo, linked-last, linked-cong}
+use Rattle.schedule.specs.Lists.{one?}
+use Rattle.schedule.specs.Servers.{Server}
+use Rattle.schedule.specs.ServerJobs.{priorityOf}
+use Rattle.schedule.proofs.Tests.{by-lt}
+use Rattle.theorems.proofs.LinkRows.{linkedUpTo, linked-last, linked-cong}
 use Rattle.table.specs.declared.Pending.{Pending}
 use Rattle.table.specs.declared.State.{State}
 use Rattle.window.specs.Entries.{places, window, noJob, slotOf, serverAt, countAt, firstAt, leftAt}

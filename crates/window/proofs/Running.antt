@@ -10,15 +10,15 @@ use native.Mathlib.Omega.{arith}
 use lib.Dec.{T, ltb, eqb, eqb→eq}
 use lib.ListN.{length, getD}
 use borrow.Author.Tests.{lt-ltb, le-ltb, ne-eqb}
-use Rattle.rules.specs.Lists.{one?, count, keep, joined}
-use Rattle.rules.specs.Servers.{Server, srv, Box, whole}
-use Rattle.rules.specs.ServerJobs.{ServerJob, jobsFrom, releaseOf, released, releasedBefore, priorityOf, ready, readyJobs, rank, used}
-use Rattle.rules.specs.Walk.{Running, runningAt, rowAt}
-use Rattle.rules.proofs.Tests.{by-lt, either-way, dec, and-l, and-r, true-T, bool-ext, eq→eqb}
-use Rattle.rules.proofs.Counts.{serverJob, count-keep}
-use Rattle.rules.proofs.InTurn.{completed}
-use Rattle.rules.proofs.Linking.{linkOf}
-use Rattle.rules.proofs.Finishing.{link-le}
+use Rattle.schedule.specs.Lists.{one?, count, keep, joined}
+use Rattle.schedule.specs.Servers.{Server, srv, Box, whole}
+use Rattle.schedule.specs.ServerJobs.{ServerJob, jobsFrom, releaseOf, released, releasedBefore, priorityOf, ready, readyJobs, rank, used}
+use Rattle.schedule.specs.Walk.{Running, runningAt, rowAt}
+use Rattle.schedule.proofs.Tests.{by-lt, either-way, dec, and-l, and-r, true-T, bool-ext, eq→eqb}
+use Rattle.theorems.proofs.Counts.{serverJob, count-keep}
+use Rattle.theorems.proofs.InTurn.{completed}
+use Rattle.theorems.proofs.Linking.{linkOf}
+use Rattle.theorems.proofs.Finishing.{link-le}
 use Rattle.table.specs.declared.Pending.{Pending}
 use Rattle.table.specs.declared.State.{State}
 use Rattle.window.specs.declared.Plan.{Plan}

@@ -8,14 +8,14 @@ use native.Mathlib.Omega.{arith}
 use lib.Dec.{leb, leb→le, le→leb}
 use lib.ListN.{length}
 use borrow.Author.Tests.{lt-ltb, le-ltb}
-use Rattle.rules.specs.Lists.{one?}
-use Rattle.rules.specs.Servers.{Server, srv, Box, whole}
-use Rattle.rules.specs.ServerJobs.{released, releasedBefore}
-use Rattle.rules.specs.Walk.{figure}
-use Rattle.rules.proofs.Tests.{and-r, and-i, by-lt, bool-ext, one-le-one}
-use Rattle.rules.proofs.Releases.{priority-grows}
-use Rattle.rules.proofs.InTurn.{budgetOf, usedBy, running, used-out, used-step, completed, not-complete}
-use Rattle.rules.proofs.Linking.{linkOf}
+use Rattle.schedule.specs.Lists.{one?}
+use Rattle.schedule.specs.Servers.{Server, srv, Box, whole}
+use Rattle.schedule.specs.ServerJobs.{released, releasedBefore}
+use Rattle.schedule.specs.Walk.{figure}
+use Rattle.schedule.proofs.Tests.{and-r, and-i, by-lt, bool-ext, one-le-one}
+use Rattle.theorems.proofs.Releases.{priority-grows}
+use Rattle.theorems.proofs.InTurn.{budgetOf, usedBy, running, used-out, used-step, completed, not-complete}
+use Rattle.theorems.proofs.Linking.{linkOf}
 use Rattle.table.specs.declared.State.{State}
 use Rattle.window.specs.declared.Plan.{Plan}
 use Rattle.window.specs.Entries.{countAt, firstAt, leftAt, nodesOf}

@@ -10,8 +10,8 @@ use lib.Dec.{leb, ltb}
 use lib.ListN.{length, getD, set, length-set}
 use lib.Seq.{getD-set-same, getD-set-other}
 use borrow.Author.Tests.{lt-ltb, le-ltb}
-use Rattle.rules.specs.Lists.{one?}
-use Rattle.rules.proofs.Tests.{by-lt}
+use Rattle.schedule.specs.Lists.{one?}
+use Rattle.schedule.proofs.Tests.{by-lt}
 use Rattle.window.specs.Entries.{window}
 use Rattle.window.specs.Loops.{someBelow, inTurn}
 use Rattle.window.specs.Choosing.{readyOf, keyOfSlot}

@@ -11,15 +11,15 @@ use native.Mathlib.Omega.{arith}
 use lib.Dec.{T, ltb, eqb, ltb→lt, eqb→eq}
 use lib.ListN.{length, getD}
 use borrow.Author.Tests.{lt-ltb, le-ltb, eq-eqb}
-use Rattle.rules.specs.Lists.{any?, all?}
-use Rattle.rules.specs.Servers.{Server, srv, Box, whole}
-use Rattle.rules.specs.ServerJobs.{releaseOf, released, releasedBefore, priorityOf}
-use Rattle.rules.specs.Walk.{figure}
-use Rattle.rules.proofs.Tests.{by-lt, either-way, dec, and-l, and-r, or-e}
-use Rattle.rules.proofs.InTurn.{budgetOf, usedBy, used-step, completed, completed-le, is-complete, not-complete}
-use Rattle.rules.proofs.LinkRows.{linked-grows}
-use Rattle.rules.proofs.Linking.{linkOf}
-use Rattle.rules.proofs.Finishing.{link-le}
+use Rattle.schedule.specs.Lists.{any?, all?}
+use Rattle.schedule.specs.Servers.{Server, srv, Box, whole}
+use Rattle.schedule.specs.ServerJobs.{releaseOf, released, releasedBefore, priorityOf}
+use Rattle.schedule.specs.Walk.{figure}
+use Rattle.schedule.proofs.Tests.{by-lt, either-way, dec, and-l, and-r, or-e}
+use Rattle.theorems.proofs.InTurn.{budgetOf, usedBy, used-step, completed, completed-le, is-complete, not-complete}
+use Rattle.theorems.proofs.LinkRows.{linked-grows}
+use Rattle.theorems.proofs.Linking.{linkOf}
+use Rattle.theorems.proofs.Finishing.{link-le}
 use Rattle.table.specs.declared.State.{State}
 use Rattle.window.specs.declared.Plan.{Plan}
 use Rattle.window.specs.Entries.{places, window, countAt, firstAt, untilAt, leftAt, stepAt, nodesOf}

@@ -1,7 +1,7 @@
 -- `first_digit` meets its contract.
 use mathlib.Core.Path.{sym, _∙_}
 use borrow.Author.Tests.{ne-eqb}
-use Rattle.rules.specs.Bytes.{digitZero}
+use Rattle.format.specs.Bytes.{digitZero}
 use Rattle.reading.proofs.Scanners.{digit-value}
 use borrow.Author.Needs.{needs}
 use Rattle.asking.proofs.instants.first_digit.Statement.{statement}
