@@ -10,4 +10,3 @@ pub mod Members
 pub mod MemoryLaws
 pub mod Loads
 pub mod Admissions
-pub mod Spelled

@@ -4,4 +4,3 @@ pub mod Lines
 pub mod Outcomes
 pub mod Memory
 pub mod Admission
-pub mod Instants

@@ -1,6 +1,5 @@
 // Reading a table from the caller's own bytes, and admitting it: refusals 1 to 6.
 mod admission;
-mod instants;
 mod lines;
 mod lists;
 mod reader;
@@ -10,5 +9,7 @@ mod tables;
 pub use admission::Admitted;
 pub use admission::Verdict;
 pub use admission::admit;
-pub use instants::Instant;
-pub use instants::instant_of;
+pub use scanning::Found;
+pub use scanning::grown;
+pub use scanning::is_digit;
+pub use scanning::text_at;

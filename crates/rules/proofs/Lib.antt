@@ -4,3 +4,4 @@ pub mod Reached
 pub mod Outcomes
 pub mod ReadWellFormed
 pub mod TrueReports
+pub mod CutTables
