@@ -1,23 +1,26 @@
 -- What a call left in its buffer is what the program prints: the text as it stands there, or the refusal written in its place. No text is longer
 -- than the room for it.
-use mathlib.Core.Path.{_≡_, refl, sym, ap, subst}
+use mathlib.Core.Path.{_≡_, refl, sym, ap, subst, _∙_}
 use mathlib.Core.Bool.{Bool, true, false}
 use mathlib.Core.List.{List}
-use Prim.Native.Nat.{ℕ, _≤_}
+use Prim.Native.Nat.{ℕ, _≤_, _<_}
 use native.Mathlib.Omega.{arith}
-use lib.ListN.{length, drop, length-append}
+use lib.ListN.{length, take, drop, length-append}
 use lib.Dec.{T}
 use Rattle.rules.specs.declared.Answer.{Answer}
 use Rattle.rules.specs.declared.Answer.the-variants.{Text, Refused}
 use Rattle.format.specs.declared.Refusal.{Refusal}
 use Rattle.format.specs.declared.Refusal.the-variants.{TooLong}
+use Rattle.schedule.specs.Limits.{tableBytes}
+use Rattle.rules.proofs.CutTables.{report-of-cut, row-of-cut}
 use Rattle.rules.specs.Answers.{Reply, says, refuses, printed, reportOf, rowOf, fitted, Call, left, callOf}
 use Rattle.writing.specs.Written.{Written}
 use Rattle.writing.specs.Lengths.{longestReport, longestRow}
 use Rattle.sheet.proofs.Room.{every-report-fits}
 use Rattle.sheet.proofs.RowRoom.{every-row-fits}
-use Rattle.phalandrix.specs.declared.answering.Question.{Question}
-use Rattle.phalandrix.specs.declared.answering.Question.the-variants.{Report, Row}
+use Rattle.asking.specs.declared.questions.Question.{Question}
+use Rattle.asking.specs.declared.questions.Question.the-variants.{Report, Row}
+use Rattle.phalandrix.specs.Inputs.{Holds}
 use Rattle.phalandrix.specs.Questions.{replyOf}
 use borrow.Author.Tests.{le-leb}
 use Rattle.sheet.specs.Calls.{called}
@@ -73,3 +76,14 @@ module _ (q : Question) (table before after : List ℕ) (room : longestRow ≤ l
 -- what was written stands within the buffer
 pub written-within : (s before after : List ℕ) (n : ℕ) → Written s before after n → n ≤ length after
 written-within s before after n w = omega (arith, w .size, ap length (w .bytes), length-append s (drop (length s) before))
+
+-- an input that was read into a room past the limit is answered as the whole one
+reply-of-cut : (q : Question) (room : ℕ) → tableBytes .to < room → (s : List ℕ) → replyOf q (take room s) ≡ replyOf q s
+reply-of-cut Report room h s = report-of-cut room h s
+reply-of-cut (Row t) room h s = row-of-cut room h s t
+
+-- what is printed for the bytes in a room past the limit is what is printed for the input that it holds
+pub held-printed : (q : Question) (room before after : List ℕ) (n m : ℕ) → tableBytes .to < length room
+    → Written (printed (replyOf q (take n room))) before after m → (input : List ℕ) → Holds input room n → Written (printed (replyOf q input)) before after m
+held-printed q room before after n m h w input holds =
+    subst (λ (r : Reply). Written (printed r) before after m) (ap (replyOf q) holds ∙ reply-of-cut q (length room) h input) w

@@ -1,8 +1,48 @@
--- What a read leaves: no more bytes than there is space for.
-use Prim.Native.Nat.{ℕ, _+_, _≤_}
+-- What a read leaves, and when a room holds an input.
+use mathlib.Core.Path.{_≡_}
+use mathlib.Core.List.{List}
+use Prim.Native.Nat.{ℕ, zero, suc, _+_, _≤_, _<_}
+use lib.IntN.{ℤ, pos, negsuc}
+use lib.ListN.{length, take}
+use Rattle.io.specs.Counts.{clamped}
 use Rattle.phalandrix.specs.declared.input.Input.{Input}
-use Rattle.phalandrix.specs.declared.input.Input.the-variants.{Bytes, Failed}
+use Rattle.phalandrix.specs.declared.input.Input.the-variants as Input
+use Rattle.phalandrix.specs.declared.input.Progress.{Progress}
+use Rattle.phalandrix.specs.declared.input.Progress.the-variants as Progress
+use Rattle.phalandrix.specs.declared.input.Reading.{Reading}
+use Rattle.phalandrix.specs.declared.input.Reading.the-variants.{More, Ended, Failed}
 
-abbrev pub Within : ℕ → ℕ → Input → Type 0
-Within done room (Bytes n) = done + n ≤ room
-Within done room Failed = Unit {0}
+-- so many bytes: none is the end
+abbrev pub counted : ℕ → Reading
+counted zero = Ended
+counted (suc n) = More (suc n)
+
+-- a read into `size` bytes that returned a number below 0 has failed, and is not the end
+abbrev pub afterRead : ℤ → ℕ → Reading
+afterRead (negsuc k) size = Failed
+afterRead (pos k) size = counted (clamped (pos k) size)
+
+-- a read that goes on has read a byte at least, and no more than `size`
+abbrev pub Read : ℕ → Reading → Type 0
+Read size (More n) = (0 < n) × (n ≤ size)
+Read size Ended = Unit {0}
+Read size Failed = Unit {0}
+
+-- what a read behind `done` bytes makes of the input: at the end what is there, and after a failure none
+abbrev pub inputAfter : ℕ → Reading → Progress
+inputAfter done (More n) = Progress.On n
+inputAfter done Ended = Progress.Over (Input.Bytes done)
+inputAfter done Failed = Progress.Over Input.Failed
+
+abbrev pub Within : ℕ → Input → Type 0
+Within room (Input.Bytes n) = n ≤ room
+Within room Input.Failed = Unit {0}
+
+-- behind `done` bytes: a byte more at least, and none past the room
+abbrev pub Further : ℕ → ℕ → Progress → Type 0
+Further done room (Progress.On n) = (0 < n) × (done + n ≤ room)
+Further done room (Progress.Over input) = Within room input
+
+-- the first n bytes of the room are the input, as far as the room goes
+abbrev pub Holds : List ℕ → List ℕ → ℕ → Type 0
+Holds input room n = take n room ≡ take (length room) input

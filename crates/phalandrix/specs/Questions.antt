@@ -2,8 +2,8 @@
 use mathlib.Core.List.{List}
 use Prim.Native.Nat.{ℕ}
 use Rattle.rules.specs.Answers.{Reply, reportOf, rowOf}
-use Rattle.phalandrix.specs.declared.answering.Question.{Question}
-use Rattle.phalandrix.specs.declared.answering.Question.the-variants.{Report, Row}
+use Rattle.asking.specs.declared.questions.Question.{Question}
+use Rattle.asking.specs.declared.questions.Question.the-variants.{Report, Row}
 
 abbrev pub replyOf : Question → List ℕ → Reply
 replyOf Report s = reportOf s

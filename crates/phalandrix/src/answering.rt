@@ -1,18 +1,17 @@
 // What the program prints for a question about a table.
+use asking::Question;
 use rules::Answer;
 ghost use mathlib.Core.Path.{_≡_};
-ghost use Prim.Native.Nat.{_≤_};
+ghost use mathlib.Core.List.{List};
+ghost use Prim.Native.Nat.{ℕ, _≤_, _<_};
 ghost use lib.ListN.{length};
+ghost use Rattle.schedule.specs.Limits.{tableBytes};
 ghost use Rattle.rules.specs.Answers.{printed, callOf};
 ghost use Rattle.writing.specs.Lengths.{longestRow};
 ghost use Rattle.writing.specs.Written.{Written};
 ghost use Rattle.sheet.specs.Calls.{called};
+ghost use Rattle.phalandrix.specs.Inputs.{Holds};
 ghost use Rattle.phalandrix.specs.Questions.{replyOf};
-
-pub enum Question {
-    Report,
-    Row(u32),
-}
 
 pub fn asked(q: Question, table: &[u8], text: &mut [u8]) -> Answer
     ensures { λ r. ⌜ called r (now (text .exit)) ≡ callOf (now (text .entry)) (replyOf q (now (table .entry))) ⌝ }
@@ -37,4 +36,15 @@ pub fn put_answer(q: Question, table: &[u8], text: &mut [u8]) -> usize
             n
         }
     }
+}
+
+// The same for an input that was read into a room, as far as the room goes: a room past the limit of a table's bytes is enough.
+pub fn put_answer_to(q: Question, room: &[u8], n: usize, text: &mut [u8]) -> usize
+    requires { ⌜ tableBytes .to < length (now room) ⌝ }
+    requires { ⌜ n ≤ length (now room) ⌝ }
+    requires { ⌜ longestRow ≤ length (now text) ⌝ }
+    ensures { λ m. ⌜ ((input : List ℕ) → Holds input (now (room .entry)) n → Written (printed (replyOf q input)) (now (text .entry)) (now (text .exit)) m) ⌝ }
+    ensures { λ m. ⌜ m ≤ length (now (text .exit)) ⌝ }
+{
+    put_answer(q, &room[..n], text)
 }

@@ -1,43 +1,78 @@
-// Standard input, as far as a table may go.
-use libc::STDIN_FILENO;
+// Reading an input.
+ghost use mathlib.Core.Path.{_≡_};
 ghost use Prim.Native.Nat.{_≤_};
 ghost use lib.ListN.{length};
-ghost use Rattle.phalandrix.specs.Inputs.{Within};
+ghost use Rattle.phalandrix.specs.Inputs.{afterRead, Read, inputAfter, Further, Within};
 
+// What one read comes to: so many bytes more, the end, or a failure.
+pub enum Reading {
+    More(usize),
+    Ended,
+    Failed,
+}
+
+// An input, as far as there is room for it.
 pub enum Input {
     Bytes(usize),
     Failed,
 }
 
-// One read behind the bytes that are there; 0 at the end of the input.
-pub fn read_more(space: &mut [u8], done: usize) -> Input
+// Reading goes on behind so many bytes more, or is over.
+pub enum Progress {
+    On(usize),
+    Over(Input),
+}
+
+// After a read into `part` that returned `got`.
+pub fn after_read(got: isize, part: &[u8]) -> Reading
+    ensures { λ r. ⌜ r ≡ afterRead got (length (now (part .entry))) ⌝ }
+    ensures { λ r. ⌜ Read (length (now (part .entry))) r ⌝ }
+{
+    if got < 0 {
+        return Reading::Failed;
+    }
+    let n = io::count(got, part);
+    if n == 0 {
+        return Reading::Ended;
+    }
+    Reading::More(n)
+}
+
+// What a read behind `done` bytes makes of the input: a failure is no input.
+pub fn input_after(done: usize, reading: Reading) -> Progress
+    ensures { λ r. ⌜ r ≡ inputAfter done reading ⌝ }
+{
+    match reading {
+        Reading::More(n) => Progress::On(n),
+        Reading::Ended => Progress::Over(Input::Bytes(done)),
+        Reading::Failed => Progress::Over(Input::Failed),
+    }
+}
+
+// One read behind the bytes that are there.
+pub fn read_more(fd: i32, space: &mut [u8], done: usize) -> Progress
     requires { ⌜ done ≤ length (now space) ⌝ }
-    ensures { λ r. ⌜ Within done (length (now (space .entry))) r ⌝ }
+    ensures { λ r. ⌜ Further done (length (now (space .entry))) r ⌝ }
 {
     let part: &mut [u8] = &mut space[done..];
-    let got = libc::read(STDIN_FILENO, part);
-    if got < 0 {
-        return Input::Failed;
-    }
-    Input::Bytes(io::count(got, part))
+    let got = libc::read(fd, part);
+    let reading = after_read(got, part);
+    input_after(done, reading)
 }
 
 // Until the input ends or the space is full: what comes after that is not read.
-pub fn read_table(space: &mut [u8]) -> Input
-    ensures { λ r. ⌜ Within 0 (length (now (space .entry))) r ⌝ }
+pub fn read_input(fd: i32, space: &mut [u8]) -> Input
+    ensures { λ r. ⌜ Within (length (now (space .entry))) r ⌝ }
 {
     let mut done: usize = 0;
     while done < space.len() {
-        let more = read_more(&mut *space, done);
-        match more {
-            Input::Failed => {
-                return Input::Failed;
-            }
-            Input::Bytes(n) => {
-                if n == 0 {
-                    return Input::Bytes(done);
-                }
+        let progress = read_more(fd, &mut *space, done);
+        match progress {
+            Progress::On(n) => {
                 done += n;
+            }
+            Progress::Over(input) => {
+                return input;
             }
         }
     }

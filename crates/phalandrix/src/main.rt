@@ -2,20 +2,36 @@
 mod answering;
 mod input;
 
-use answering::Question;
-use answering::put_answer;
+use answering::put_answer_to;
+use asking::Asked;
+use asking::Instant;
+use asking::Passed;
+use asking::Question;
+use asking::WORD_ROOM;
 use input::Input;
-use input::read_table;
+use input::Reading;
+use input::after_read;
+use input::read_input;
 use libc::STDERR_FILENO;
+use libc::STDIN_FILENO;
 use libc::STDOUT_FILENO;
-use reading::Instant;
 use table::Table;
 
 // One byte more than a table may have: no more is read of a longer one, and that is enough to refuse it.
 const TABLE_ROOM: usize = Table::TABLE_BYTES_TO as usize + 1;
 
-// As long as one argument can be on x86-64 Linux, with the zero byte that ends it.
-const ARGUMENT_ROOM: usize = 131_072;
+// A piece of the command line.
+const PIECE: usize = 512;
+
+// Each turn reads a byte or more, and Linux allows some 6 million bytes of arguments: the turns do not run out.
+const TURNS: u32 = 0xffff_ffff;
+
+// One piece more of the command line.
+enum Line {
+    More(Passed),
+    Ended,
+    Failed,
+}
 
 fn print_usage() {
     io::write_all(
@@ -31,45 +47,81 @@ fn print(bytes: &[u8]) {
     }
 }
 
+fn read_piece(fd: i32, p: Passed) -> Line {
+    let mut piece = [0u8; PIECE];
+    let got = libc::read(fd, &mut piece);
+    let reading = after_read(got, &piece);
+    match reading {
+        Reading::More(n) => Line::More(asking::passed_by(p, &piece[..n])),
+        Reading::Ended => Line::Ended,
+        Reading::Failed => Line::Failed,
+    }
+}
+
+// The instant that argument i spells, from the whole command line.
+fn instant_from(fd: i32, i: usize) -> Instant {
+    let mut p = Passed::Before(i);
+    let mut turns = TURNS;
+    while turns > 0 {
+        match read_piece(fd, p) {
+            Line::More(q) => {
+                p = q;
+                turns -= 1;
+            }
+            Line::Ended => {
+                return asking::instant_told(p);
+            }
+            Line::Failed => {
+                return Instant::Unread;
+            }
+        }
+    }
+    Instant::Unread
+}
+
+fn long_instant(i: usize) -> Instant {
+    let fd = os::open_read(b"/proc/self/cmdline");
+    if fd < 0 {
+        return Instant::Unread;
+    }
+    let instant = instant_from(fd, i);
+    libc::close(fd);
+    instant
+}
+
+// An argument that fits a room is copied there; the kit has no call for the rest of a longer one.
+fn instant_asked(i: usize) -> Instant {
+    let mut room = io::buffer();
+    let n = os::arg(i, &mut room);
+    if os::errno() == libc::ENAMETOOLONG {
+        return long_instant(i);
+    }
+    asking::instant_of(&room[..n])
+}
+
+fn question_asked() -> Asked {
+    let mut room = [0u8; WORD_ROOM];
+    let n = os::arg(1, &mut room);
+    let instant = instant_asked(2);
+    asking::question_of(os::arg_count(), &room, n, instant)
+}
+
 fn answer(q: Question) {
-    let mut space = [0u8; TABLE_ROOM];
+    let mut room = [0u8; TABLE_ROOM];
     let mut text = io::buffer();
-    match read_table(&mut space) {
+    match read_input(STDIN_FILENO, &mut room) {
         Input::Failed => os::fail(b"standard input"),
         Input::Bytes(n) => {
-            let m = put_answer(q, &space[..n], &mut text);
+            let m = put_answer_to(q, &room, n, &mut text);
             print(&text[..m]);
         }
     }
 }
 
-// Whether the first argument is `row`.
-fn asks_for_row() -> bool {
-    let mut word = [0u8; 3];
-    let n = os::arg(1, &mut word);
-    n == 3 && word[0] == b'r' && word[1] == b'o' && word[2] == b'w'
-}
-
-fn instant_asked() -> Instant {
-    let mut space = [0u8; ARGUMENT_ROOM];
-    let n = os::arg(2, &mut space);
-    reading::instant_of(&space[..n])
-}
-
 fn main() {
-    let count = os::arg_count();
-    if count == 1 {
-        answer(Question::Report);
-        return;
+    match question_asked() {
+        Asked::Answer(q) => answer(q),
+        Asked::Usage => print_usage(),
+        Asked::Unread => os::fail(b"/proc/self/cmdline"),
     }
-    if count == 3 {
-        if asks_for_row() {
-            match instant_asked() {
-                Instant::At(t) => answer(Question::Row(t)),
-                Instant::Misspelled => print_usage(),
-            }
-            return;
-        }
-    }
-    print_usage();
 }

@@ -3,4 +3,3 @@ pub mod Runs
 pub mod Successors
 pub mod Graphs
 pub mod MemoryLaws
-pub mod Spelled

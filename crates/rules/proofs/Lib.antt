@@ -4,3 +4,4 @@ pub mod Outcomes
 pub mod ReadWellFormed
 pub mod Printed
 pub mod TrueReports
+pub mod CutTables

@@ -9,5 +9,7 @@ pub use lists::list_at;
 pub use scanners::Found;
 pub use scanners::Scanned;
 pub use scanners::byte_at;
+pub use scanners::grown;
+pub use scanners::is_digit;
 pub use scanners::number_at;
 pub use scanners::text_at;

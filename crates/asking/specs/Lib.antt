@@ -1,0 +1,3 @@
+pub mod Instants
+pub mod Arguments
+pub mod Questions

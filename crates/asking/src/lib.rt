@@ -1,0 +1,14 @@
+// What the program's arguments ask, as functions of their bytes.
+mod arguments;
+mod instants;
+mod questions;
+
+pub use arguments::Passed;
+pub use arguments::instant_told;
+pub use arguments::passed_by;
+pub use instants::Instant;
+pub use instants::instant_of;
+pub use questions::Asked;
+pub use questions::Question;
+pub use questions::WORD_ROOM;
+pub use questions::question_of;

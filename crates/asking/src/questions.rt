@@ -1,0 +1,68 @@
+// The question that the arguments ask.
+use crate::instants::Instant;
+use scanning::Found;
+ghost use mathlib.Core.Path.{_≡_};
+ghost use mathlib.Core.List.{List};
+ghost use Prim.Native.Nat.{ℕ, _≤_};
+ghost use lib.ListN.{length, take};
+ghost use Rattle.asking.specs.Questions.{isWord, row, longestWord, rowAsked, asked, Told, questionOf};
+
+pub enum Question {
+    Report,
+    Row(u32),
+}
+
+pub enum Asked {
+    Answer(Question),
+    Usage,
+    // an argument that the system did not hand over
+    Unread,
+}
+
+// No word of the program is longer.
+pub const WORD_ROOM: usize = 8;
+
+pub fn is_row(word: &[u8]) -> bool
+    ensures { λ r. ⌜ r ≡ isWord row (now (word .entry)) ⌝ }
+{
+    let found = scanning::text_at(word, 0, *b"row\0\0\0\0\0\0\0", 3);
+    match found {
+        Found::After(p) => word.len() <= p,
+        Found::Wrong(_) => false,
+    }
+}
+
+pub fn row_asked(instant: Instant) -> Asked
+    ensures { λ r. ⌜ r ≡ rowAsked instant ⌝ }
+{
+    match instant {
+        Instant::At(t) => Asked::Answer(Question::Row(t)),
+        Instant::Misspelled => Asked::Usage,
+        Instant::Unread => Asked::Unread,
+    }
+}
+
+pub fn asked_by(count: usize, word: &[u8], instant: Instant) -> Asked
+    ensures { λ r. ⌜ r ≡ asked count (now (word .entry)) instant ⌝ }
+{
+    if count == 1 {
+        return Asked::Answer(Question::Report);
+    }
+    if count == 3 {
+        if is_row(word) {
+            return row_asked(instant);
+        }
+    }
+    Asked::Usage
+}
+
+// By how many arguments there are, the program's own name among them; the first n bytes of the room that argument 1 was put into; and the
+// instant that argument 2 spells.
+pub fn question_of(count: usize, room: &[u8], n: usize, instant: Instant) -> Asked
+    requires { ⌜ longestWord ≤ length (now room) ⌝ }
+    requires { ⌜ n ≤ length (now room) ⌝ }
+    ensures { λ r. ⌜ r ≡ asked count (take n (now (room .entry))) instant ⌝ }
+    ensures { λ r. ⌜ ((arguments : List (List ℕ)) → Told arguments count (now (room .entry)) n instant → r ≡ questionOf arguments) ⌝ }
+{
+    asked_by(count, &room[..n], instant)
+}
