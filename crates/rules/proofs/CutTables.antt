@@ -11,7 +11,8 @@ use Rattle.format.specs.declared.Refusal.the-variants.{TooLong}
 use Rattle.schedule.specs.Limits as Limits
 use Rattle.format.specs.Reading.{readOf, refused}
 use Rattle.rules.specs.Admission.{admitRead, admissionOf}
-use Rattle.rules.specs.Answers.{reportOf, rowOf, reportAdmitted, rowAdmitted, wholeWalk}
+use Rattle.schedule.specs.Walk.{wholeWalk}
+use Rattle.rules.specs.Answers.{reportOf, rowOf, reportAdmitted, rowAdmitted}
 use Rattle.schedule.proofs.Tests.{by-lt}
 
 too-long : (s : List ℕ) → Limits.tableBytes .to < length s → readOf s ≡ refused TooLong
