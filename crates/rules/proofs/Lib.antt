@@ -33,3 +33,5 @@ pub mod TableBox
 pub mod LeastTrue
 pub mod Decimal
 pub mod TrueReports
+pub mod QuietSpans
+pub mod QuietWalk

@@ -1,6 +1,5 @@
 // The figure of each graph: the largest response that the window of its sink has kept.
 use table::Graph;
-use table::State;
 use table::Table;
 ghost use mathlib.Core.Path.{_≡_};
 ghost use Rattle.sheet.specs.Figures as Mirror;
@@ -19,23 +18,17 @@ pub fn sink_of(g: Graph) -> usize
     if end == 0 { 0 } else { end - 1 }
 }
 
-pub fn worst_at(st: State, place: usize) -> u32
-    ensures { λ r. ⌜ r ≡ Mirror.worstAt st place ⌝ }
-{
-    if place < Table::SERVERS {
-        let s = st.servers[place];
-        return s.worst;
-    }
-    0
-}
-
-pub fn figures_of(table: Table, st: State) -> [u32; Table::GRAPHS]
-    ensures { λ r. ⌜ r ≡ Mirror.figuresOf table st ⌝ }
+pub fn figures_of(table: Table, worst: [u32; Table::SERVERS]) -> [u32; Table::GRAPHS]
+    ensures { λ r. ⌜ r ≡ Mirror.figuresOf table worst ⌝ }
 {
     let mut f = [0u32; Table::GRAPHS];
     let mut g: usize = 0;
     while g < Table::GRAPHS {
-        f[g] = worst_at(st, sink_of(table.graph[g]));
+        let x = table.graph[g];
+        let place = sink_of(x);
+        if place < Table::SERVERS {
+            f[g] = worst[place];
+        }
         g += 1;
     }
     f

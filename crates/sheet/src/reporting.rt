@@ -45,7 +45,13 @@ pub fn report_walk(table: Table, w: Walk, buffer: &mut [u8]) -> Answer
     match how {
         How::Settled(k) => {
             let st = w.state;
-            put_settled(buffer, k, w.ticks, figures_of(table, st), table.graphs)
+            put_settled(
+                buffer,
+                k,
+                w.ticks,
+                figures_of(table, st.worst),
+                table.graphs,
+            )
         }
         How::Backlog => Answer::Refused(Refusal::Backlog),
         How::Unsettled => Answer::Refused(Refusal::Unsettled),
