@@ -1,12 +1,56 @@
 // The plan of a table, made in place in one loop: no copy of a plan for each graph.
+use crate::graphs::next_graph;
+use crate::graphs::number_in;
 use crate::narrowing::narrow8;
 use crate::narrowing::narrow16;
 use crate::places::at_places;
+use table::Graph;
+use table::Node;
 use table::Table;
 use window::Plan;
+ghost use mathlib.Core.Path.{_≡_};
+ghost use Prim.Native.Nat.{_<_};
+ghost use Rattle.window.specs.Entries.{places};
+ghost use Rattle.planning.specs.Plans as Mirror;
+
+// What the plan has at a place.
+pub struct Entry {
+    pub budget: u16,
+    pub after: u32,
+    pub level: u8,
+    pub step: u32,
+    pub lead: u32,
+    pub room: u8,
+    pub node: u8,
+}
+
+// Node x of graph y at place i. A sink may have UNFINISHED unfinished jobs, another node as many as a number has room for.
+pub fn entry_of(x: Node, y: Graph, i: usize) -> Entry
+    requires { ⌜ i < places ⌝ }
+    ensures { λ r. ⌜ r ≡ Mirror.entryOf x y i ⌝ }
+{
+    let number = number_in(y, i);
+    let step = narrow16(y.period) as u32 * Table::ALL_NODES_TO;
+    let room = if number == y.nodes {
+        Table::UNFINISHED as u8
+    } else {
+        u8::MAX
+    };
+    Entry {
+        budget: narrow16(x.budget),
+        after: at_places(x.after, (i + 1 - number) as u32),
+        level: narrow8(x.level),
+        step,
+        lead: step + i as u32,
+        room,
+        node: number as u8,
+    }
+}
 
 // A plan of these processors and this many nodes, with no node at its place yet.
-pub fn no_plan(processors: u32, nodes: usize) -> Plan {
+pub fn no_plan(processors: u32, nodes: usize) -> Plan
+    ensures { λ r. ⌜ r ≡ Mirror.noPlan processors nodes ⌝ }
+{
     Plan {
         processors: processors as usize,
         nodes,
@@ -16,39 +60,33 @@ pub fn no_plan(processors: u32, nodes: usize) -> Plan {
         period: [0u32; Table::SERVERS],
         step: [0u32; Table::SERVERS],
         lead: [0u32; Table::SERVERS],
-        room: [u8::MAX; Table::SERVERS],
+        room: [0u8; Table::SERVERS],
         graph: [0u8; Table::SERVERS],
         node: [0u8; Table::SERVERS],
     }
 }
 
-// Each node at its place; `g` goes on to the next graph behind the last node of one.
-pub fn plan_of(table: Table) -> Plan {
+// Each node at its place.
+pub fn plan_of(table: Table) -> Plan
+    ensures { λ r. ⌜ r ≡ Mirror.planOf table ⌝ }
+{
     let n = numbers::smaller(table.nodes, Table::SERVERS);
     let mut p = no_plan(table.processors, table.nodes);
     let mut g: usize = 0;
     let mut i: usize = 0;
     while i < n {
-        let x = table.node[i];
         let y = table.graph[g];
-        let sink = i + 1 == y.first + y.nodes;
-        let step = narrow16(y.period) as u32 * Table::ALL_NODES_TO;
-        p.budget[i] = narrow16(x.budget);
-        p.after[i] = at_places(x.after, y.first as u32);
-        p.level[i] = narrow8(x.level);
+        let e = entry_of(table.node[i], y, i);
+        p.budget[i] = e.budget;
+        p.after[i] = e.after;
+        p.level[i] = e.level;
         p.period[i] = y.period;
-        p.step[i] = step;
-        p.lead[i] = step + i as u32;
-        p.room[i] = if sink {
-            Table::UNFINISHED as u8
-        } else {
-            u8::MAX
-        };
+        p.step[i] = e.step;
+        p.lead[i] = e.lead;
+        p.room[i] = e.room;
         p.graph[i] = (g + 1) as u8;
-        p.node[i] = (i + 1 - y.first) as u8;
-        if sink && g + 1 < Table::GRAPHS {
-            g += 1;
-        }
+        p.node[i] = e.node;
+        g = next_graph(y, i, g);
         i += 1;
     }
     p
