@@ -38,6 +38,14 @@ key-order S x y h g =
 abbrev pub readySlots : Plan → State → ℕ → ℕ
 readySlots plan st i = readyOf (countAt st i) (levelAt plan i)
 
+-- slot e of server i: the server job, and its key
+module _ (X : Box) (t : ℕ) where
+  abbrev pub slotJob : ℕ → ℕ → ServerJob
+  slotJob i e = serverJob i (completed (X .servers) (X .cap) t i + 1 + e)
+
+  abbrev pub slotKey : ℕ → ℕ → ℕ
+  slotKey i e = keyOf (X .servers) (slotJob i e)
+
 module _ (X : Box) (plan : Plan) (t : ℕ) (st : State) (fits : Fits X plan) (rel : Released X t st) (near : t ≤ lastInstant) where
   abbrev S : List Server
   S = X .servers
@@ -50,13 +58,6 @@ module _ (X : Box) (plan : Plan) (t : ℕ) (st : State) (fits : Fits X plan) (re
 
   abbrev m : ℕ → ℕ
   m i = readySlots plan st i
-
-  -- slot e of server i
-  abbrev pub slotJob : ℕ → ℕ → ServerJob
-  slotJob i e = serverJob i (c i + 1 + e)
-
-  abbrev pub slotKey : ℕ → ℕ → ℕ
-  slotKey i e = keyOf S (slotJob i e)
 
   pub places-used : nodesOf plan ≡ length S
   places-used = omega (arith, fits .nodes, fits .small)
@@ -118,5 +119,5 @@ module _ (X : Box) (plan : Plan) (t : ℕ) (st : State) (fits : Fits X plan) (re
       let (u, v) = ready-only i k h r in
       record { inside = h; slot = k - (c i + 1); ready-slot = omega arith; number = omega arith }
 
-  pub slot-ready : (i e : ℕ) → i < length S → e < m i → T (ready S σ t (slotJob i e))
+  pub slot-ready : (i e : ℕ) → i < length S → e < m i → T (ready S σ t (slotJob X t i e))
   slot-ready i e h l = ready-in i (c i + 1 + e) h (omega arith) (omega arith)

@@ -4,3 +4,4 @@ pub mod Instants
 pub mod Keys
 pub mod Ranks
 pub mod Picking
+pub mod Chosen
