@@ -20,7 +20,8 @@ use Rattle.window.specs.declared.Plan.{Plan}
 use Rattle.window.specs.Entries.{places, window, lastKey, countAt, nodesOf}
 use Rattle.window.specs.Choosing.{Picks, chosen, noRun, noAt}
 use Rattle.window.proofs.Relation.{lastInstant, Fits, Released}
-use Rattle.window.proofs.Keys.{keyOf, slotJob, slotKey, readySlots, places-used, key-small, keys-rise, next-key, standing, slot-ready}
+use Rattle.window.proofs.Places.{nodes-are}
+use Rattle.window.proofs.Keys.{keyOf, slotJob, slotKey, readySlots, key-small, keys-rise, next-key, standing, slot-ready}
 use Rattle.window.proofs.Ranks.{readyAt, rankAt, below, below-grows, below-same, below-none, below-next, rank-is, same-key}
 use Rattle.window.proofs.Picking.{Laid, Entry, Picked, picked}
 
@@ -80,10 +81,10 @@ module _ (X : Box) (plan : Plan) (t : ℕ) (st : State) (fits : Fits X plan) (re
       }
     where
       in-S : (i : ℕ) → i < nodesOf plan → i < length S
-      in-S i h = omega (arith, places-used X plan t st fits rel near)
+      in-S i h = omega (arith, nodes-are X plan fits)
 
       in-plan : (i : ℕ) → i < length S → i < nodesOf plan
-      in-plan i h = omega (arith, places-used X plan t st fits rel near)
+      in-plan i h = omega (arith, nodes-are X plan fits)
 
   last-of : Picked (st .first) (st .count) (plan .level) (plan .step) (nodesOf plan) (slotKey X t) (below X t) (Limits.processors .to)
       (plan .processors) (chosen plan st)
@@ -98,7 +99,7 @@ module _ (X : Box) (plan : Plan) (t : ℕ) (st : State) (fits : Fits X plan) (re
         most = last-of .within;
         entry = λ r l.
             let e = last-of .entries r l in
-            let h : e .place < length S = omega (arith, places-used X plan t st fits rel near, e .inside) in
+            let h : e .place < length S = omega (arith, nodes-are X plan fits, e .inside) in
             record {
               place = e .place;
               slot = e .slot;
@@ -116,7 +117,7 @@ module _ (X : Box) (plan : Plan) (t : ℕ) (st : State) (fits : Fits X plan) (re
             let same : keyOf S x ≡ slotKey X t (x .server) (s .slot) = ap (λ k. keyOf S (serverJob (x .server) k)) (s .number) in
             let under : keyOf S x < (chosen plan st) .from =
             rw same
-            (last-of .all (omega arith) (x .server) (s .slot) (omega (arith, places-used X plan t st fits rel near, s .inside)) (s .ready-slot)) in
+            (last-of .all (omega arith) (x .server) (s .slot) (omega (arith, nodes-are X plan fits, s .inside)) (s .ready-slot)) in
             omega (
               arith,
               rank-is X t plan st fits rel near x (s .inside),

@@ -16,7 +16,7 @@ use Rattle.rules.proofs.Ready.{priority, before-is, is-before-lt, is-before-eq,
 use Rattle.rules.proofs.InTurn.{no-budget, completed, ready-are-first}
 use Rattle.table.specs.declared.State.{State}
 use Rattle.window.specs.declared.Plan.{Plan}
-use Rattle.window.specs.Entries.{places, lastKey, further, countAt, firstAt, levelAt, stepAt, nodesOf}
+use Rattle.window.specs.Entries.{places, lastKey, further, countAt, firstAt, levelAt, stepAt}
 use Rattle.window.specs.Choosing.{readyOf}
 use Rattle.window.proofs.Relation.{lastInstant, Fits, Released}
 use Rattle.window.proofs.Instants.{next-priority, released-by}
@@ -58,9 +58,6 @@ module _ (X : Box) (plan : Plan) (t : ℕ) (st : State) (fits : Fits X plan) (re
 
   abbrev m : ℕ → ℕ
   m i = readySlots plan st i
-
-  pub places-used : nodesOf plan ≡ length S
-  places-used = omega (arith, fits .nodes, fits .small)
 
   -- a released server job's priority is at most a point away, so its key is far below the last one
   pub key-small : (i k : ℕ) → i < length S → 1 ≤ k → k ≤ released (srv S i) t → keyOf S (serverJob i k) < lastKey
