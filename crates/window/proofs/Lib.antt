@@ -1,3 +1,13 @@
 pub mod Relation
 pub mod Members
 pub mod Loops
+pub mod Instants
+pub mod Counted
+pub mod Ancestors
+pub mod Places
+pub mod Earliest
+pub mod Fresh
+pub mod Keys
+pub mod Ranks
+pub mod Picking
+pub mod Chosen
