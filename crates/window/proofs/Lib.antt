@@ -1,2 +1,3 @@
 pub mod Relation
 pub mod Members
+pub mod LoopLaws
