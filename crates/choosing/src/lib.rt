@@ -48,7 +48,7 @@ pub fn choose<'a>(
     p: usize,
 ) -> usize
     requires { ⌜ (n ≤ places) × (p ≤ Limits.processors .to) ⌝ }
-    ensures { λ r. ⌜ (r ≡ (Mirror.picks (now (first .entry)) (now (count .entry)) (now (level .entry)) (now (step .entry)) n (now (run .entry)) (now (at .entry)) p) .count) × ((now (run .exit) ≡ (Mirror.picks (now (first .entry)) (now (count .entry)) (now (level .entry)) (now (step .entry)) n (now (run .entry)) (now (at .entry)) p) .run) × (now (at .exit) ≡ (Mirror.picks (now (first .entry)) (now (count .entry)) (now (level .entry)) (now (step .entry)) n (now (run .entry)) (now (at .entry)) p) .at)) ⌝ }
+    ensures { λ r. ⌜ Mirror.Picked (Mirror.picks (now (first .entry)) (now (count .entry)) (now (level .entry)) (now (step .entry)) n (now (run .entry)) (now (at .entry)) p) r (now (run .exit)) (now (at .exit)) ⌝ }
 {
     let mut heads = *first;
     let mut taken = [0u8; Table::SERVERS];

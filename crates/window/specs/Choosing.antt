@@ -1,4 +1,5 @@
 -- The server jobs that run: the best, then the best after it, and so on. What the functions of `choosing` compute.
+use mathlib.Core.Path.{_≡_}
 use mathlib.Core.Bool.{Bool, cond}
 use mathlib.Core.List.{List}
 use Prim.Native.Nat.{ℕ, zero, suc, _+_, _*_, _%_, min}
@@ -63,6 +64,10 @@ module _ (first count level step : List ℕ) (n : ℕ) where
   unfoldable pub picks : (run at : List ℕ) → ℕ → Picks
   picks run at zero = record { run = run; at = at; heads = first; taken = replicate places 0; from = 0; count = 0 }
   picks run at (suc m) = pickNext (picks run at m)
+
+-- what is put into the lists, and how many
+abbrev pub Picked : Picks → (count : ℕ) → (run at : List ℕ) → Type 0
+Picked c count run at = (count ≡ c .count) × ((run ≡ c .run) × (at ≡ c .at))
 
 -- of the ready server jobs of a state, for a tick of p processors
 abbrev pub noRun : List ℕ
