@@ -12,3 +12,4 @@ pub mod Ranks
 pub mod Picking
 pub mod Chosen
 pub mod LoopLaws
+pub mod Fewer

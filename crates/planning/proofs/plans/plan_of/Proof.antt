@@ -133,7 +133,7 @@ loop-again c =
       omega arith,
       rw next (graph-in t (l .i + 1)),
       next,
-      one-more t (l .p) (l .g) (l .i) _ (l .inv .2) (l .inv .3) (c .before .before .entry-of .ensures),
+      one-more t (l .p) (l .g) (l .i) _ (l .inv .2) (l .inv .3) (c .before .entry-of .ensures),
     )
 
 returns : tie.Need-returns Inv-loop μ-loop
