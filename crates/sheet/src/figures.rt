@@ -1,4 +1,4 @@
-// The figure of each graph: the largest response that the window of its sink has kept.
+// The figure of each graph: the largest response that the walk has kept of its sink.
 use table::Graph;
 use table::Table;
 ghost use mathlib.Core.Path.{_≡_};
@@ -18,17 +18,24 @@ pub fn sink_of(g: Graph) -> usize
     if end == 0 { 0 } else { end - 1 }
 }
 
+// The largest response at a place; 0 where there is no such place.
+pub fn worst_at(worst: &[u32; Table::SERVERS], i: usize) -> u32
+    ensures { λ r. ⌜ r ≡ Mirror.worstAt (now (worst .entry)) i ⌝ }
+{
+    if i < Table::SERVERS {
+        let figure = worst[i];
+        return figure;
+    }
+    0
+}
+
 pub fn figures_of(table: Table, worst: [u32; Table::SERVERS]) -> [u32; Table::GRAPHS]
     ensures { λ r. ⌜ r ≡ Mirror.figuresOf table worst ⌝ }
 {
     let mut f = [0u32; Table::GRAPHS];
     let mut g: usize = 0;
     while g < Table::GRAPHS {
-        let x = table.graph[g];
-        let place = sink_of(x);
-        if place < Table::SERVERS {
-            f[g] = worst[place];
-        }
+        f[g] = worst_at(&worst, sink_of(table.graph[g]));
         g += 1;
     }
     f
