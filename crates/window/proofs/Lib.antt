@@ -11,3 +11,4 @@ pub mod Keys
 pub mod Ranks
 pub mod Picking
 pub mod Chosen
+pub mod Spans
