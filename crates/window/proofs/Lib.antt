@@ -12,3 +12,5 @@ pub mod Ranks
 pub mod Picking
 pub mod Chosen
 pub mod Spans
+pub mod Spending
+pub mod Responding
