@@ -14,3 +14,5 @@ pub mod Chosen
 pub mod Spans
 pub mod Spending
 pub mod Responding
+pub mod Moving
+pub mod Dropping
