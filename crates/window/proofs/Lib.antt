@@ -2,8 +2,12 @@ pub mod Relation
 pub mod Members
 pub mod Loops
 pub mod Instants
+pub mod Places
 pub mod Counted
 pub mod Ancestors
-pub mod Places
 pub mod Earliest
 pub mod Fresh
+pub mod Backlog
+pub mod Rows
+pub mod Due
+pub mod Release
