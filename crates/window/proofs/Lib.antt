@@ -11,3 +11,6 @@ pub mod Backlog
 pub mod Rows
 pub mod Due
 pub mod Release
+pub mod Viewed
+pub mod Keeping
+pub mod Compare
