@@ -20,11 +20,16 @@ pub fn new_key(t: u32, lead: u32) -> u32
     }
 }
 
-// The window with p in slot n.
+// The window with p in slot n. (An empty one is filled: that is one store, and what stands behind the last pending one is never looked at.)
 pub fn pushed(s: Server, n: u8, p: Pending) -> Server
     requires { ⌜ n < window ⌝ }
     ensures { λ r. ⌜ r ≡ Mirror.pushed s n p ⌝ }
 {
+    if n == 0 {
+        return Server {
+            jobs: [p; Table::WINDOW],
+        };
+    }
     let d = n as usize;
     let mut r = s;
     r.jobs[d] = p;

@@ -180,7 +180,9 @@ pub fn walk_to(
                     plan.period[i],
                 );
                 finishing::count_finish(&mut unfinished, &mut worst, i, oldest.linked, response);
-                servers[i] = finishing::shifted(s);
+                if 1 < count[i] {
+                    servers[i] = finishing::shifted(s);
+                }
                 finishing::leave(&mut left, &mut first, &mut count, i, plan.step[i]);
             }
             r += 1;

@@ -9,7 +9,7 @@ use Rattle.table.specs.declared.Pending.{Pending}
 use Rattle.table.specs.declared.Server.{Server}
 use Rattle.table.specs.declared.State.{State}
 use Rattle.window.specs.declared.Plan.{Plan}
-use Rattle.window.specs.Entries.{window, lastKey, further, slotOf, serverAt, countAt, firstAt, nextAt, periodAt, stepAt}
+use Rattle.window.specs.Entries.{window, noServer, lastKey, further, slotOf, serverAt, countAt, firstAt, nextAt, periodAt, stepAt}
 use Rattle.window.specs.Loops.{replaced, inTurn}
 use Rattle.window.specs.Choosing.{placeOf}
 
@@ -40,6 +40,10 @@ countedUnfinished unfinished i linked = cond linked (set unfinished i (getD unfi
 abbrev pub countedWorst : List ℕ → ℕ → Bool → ℕ → List ℕ
 countedWorst worst i linked response = cond linked (set worst i (max (getD worst i 0) response)) worst
 
+-- the windows with that at i shifted, where more than its oldest is pending
+abbrev pub shiftedAt : List Server → ℕ → ℕ → List Server
+shiftedAt servers i n = cond (ltb 1 n) (set servers i (shifted (getD servers i noServer))) servers
+
 -- the server at i without its oldest pending job; a linked one finishes its job
 abbrev pub finishedWith : Plan → ℕ → State → ℕ → State
 finishedWith plan now st i =
@@ -47,7 +51,7 @@ finishedWith plan now st i =
     let p : Pending = slotOf (serverAt st i) 0 in
     let response : ℕ = responseOf now (nextAt st i) n (p .behind) (periodAt plan i) in
     record {
-      servers = set (st .servers) i (shifted (serverAt st i));
+      servers = shiftedAt (st .servers) i n;
       left = movedDown (st .left) (i * window) n;
       first = set (st .first) i (laterKey n (firstAt st i) (stepAt plan i));
       count = set (st .count) i (n - 1);

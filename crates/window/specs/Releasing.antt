@@ -3,7 +3,7 @@ use mathlib.Core.Bool.{Bool, true, false, _&&_, _||_, not, cond}
 use mathlib.Core.List.{List}
 use Prim.Native.Nat.{ℕ, zero, suc, _+_, _*_, _-_, _^_, min}
 use lib.Dec.{leb, ltb, eqb}
-use lib.ListN.{getD, set}
+use lib.ListN.{getD, set, replicate}
 use Rattle.numbers.specs.Masks.{bit}
 use Rattle.table.specs.declared.Pending.{Pending}
 use Rattle.table.specs.declared.Server.{Server}
@@ -41,8 +41,9 @@ linkedNow false unlinked = record { behind = 0; linked = false }
 abbrev pub newKey : ℕ → ℕ → ℕ
 newKey t lead = min (t * places + lead) lastKey
 
+-- the window with p in slot n; an empty one is filled, and what stands behind the last pending one is never looked at
 abbrev pub pushed : Server → ℕ → Pending → Server
-pushed s n p = record { jobs = set (s .jobs) n p }
+pushed s n p = record { jobs = cond (eqb n 0) (replicate window p) (set (s .jobs) n p) }
 
 abbrev pub oneMore : ℕ → ℕ
 oneMore x = min (x + 1) (2 ^ 8 - 1)
