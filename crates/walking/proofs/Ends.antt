@@ -10,7 +10,7 @@ use native.Mathlib.Nat.{zero-mul, suc-mul, not-suc-le-zero}
 use native.Mathlib.Omega.{arith}
 use lib.Dec.{ltb, eqb}
 use lib.ListN.{length}
-use borrow.Author.Tests.{eq-eqb, eqb-true, eqb-false, ltb-true}
+use borrow.Author.Tests.{eqb-true, eqb-false, ltb-true}
 use Rattle.rules.specs.Servers.{Box, srv, whole}
 use Rattle.rules.specs.ServerJobs.{used}
 use Rattle.rules.specs.Links.{links}

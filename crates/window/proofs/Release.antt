@@ -32,7 +32,7 @@ use Rattle.window.proofs.Instants.{next-release}
 use Rattle.window.proofs.Places.{nodes-are, sink-inside, releases-are}
 use Rattle.window.proofs.Ancestors.{few-in-step, unlinked-in-step}
 use Rattle.window.proofs.Earliest.{earliest-now}
-use Rattle.window.proofs.Rows.{row-carried, row-relinked, PushedAt, row-pushed}
+use Rattle.window.proofs.Rows.{pushed-length, row-carried, row-relinked, PushedAt, row-pushed}
 use Rattle.window.proofs.Due.{new-link}
 
 -- what both branches have
@@ -79,7 +79,7 @@ module _ (plan : Plan) (t : ℕ) (before : List ℕ) where
         jobs = λ i h.
             by-eq i n
             (λ e. rw (e, getD-set-same (st .servers) n new noServer (omega (arith, ok .servers)))
-            (length-set ((serverAt st n) .jobs) (countAt st n) _ ∙ ok .jobs n l))
+            (pushed-length (serverAt st n) (countAt st n) (linkedNow due (unlinkedAt st n)) (ok .jobs n l)))
             (λ e. rw (getD-set-other (st .servers) n i new noServer e) (ok .jobs i h));
         left = length-set (st .left) (n * window + countAt st n) (budgetAt plan n) ∙ ok .left;
         first =

@@ -4,20 +4,35 @@ use mathlib.Core.Bool.{Bool, true, false, cond}
 use Prim.Native.Nat.{ℕ, suc, _+_, _*_, _-_, _≤_, _<_}
 use native.Mathlib.Omega.{arith}
 use lib.Dec.{ltb, eqb}
-use lib.ListN.{length}
+use lib.ListN.{length, length-set, length-replicate, getD-replicate}
 use lib.Seq.{getD-set-same, getD-set-other}
 use borrow.Author.Tests.{lt-ltb, le-ltb, eq-eqb, ne-eqb}
 use Rattle.rules.specs.Lists.{one?}
 use Rattle.rules.specs.Servers.{Server}
 use Rattle.rules.specs.ServerJobs.{releaseOf, priorityOf}
-use Rattle.rules.proofs.Tests.{by-lt}
+use Rattle.rules.proofs.Tests.{by-lt, either-way, dec}
 use Rattle.rules.proofs.LinkRows.{linkedUpTo, linked-last, linked-cong}
 use Rattle.table.specs.declared.Pending.{Pending}
+use Rattle.table.specs.declared.Server.{Server as Window}
 use Rattle.table.specs.declared.State.{State}
 use Rattle.window.specs.Entries.{places, window, noJob, slotOf, serverAt, countAt, firstAt, unfinishedAt, unlinkedAt, worstAt, nextAt, leftAt}
 use Rattle.window.specs.Releasing.{linkedNow, pushed}
 use Rattle.window.proofs.Relation.{Slot, Row}
 use Rattle.window.proofs.Loops.{SameAt}
+
+-- a window with one more in slot n: those before it stay
+module _ (s : Window) (n : ℕ) (p : Pending) (long : length (s .jobs) ≡ window) where
+  pub pushed-length : length ((pushed s n p) .jobs) ≡ window
+  pushed-length =
+      either-way (dec (eqb n 0)) (λ e. rw e (length-replicate window p)) (λ e. rw e (length-set (s .jobs) n p ∙ long))
+
+  pushed-before : (d : ℕ) → d < n → slotOf (pushed s n p) d ≡ slotOf s d
+  pushed-before d h = rw (ne-eqb n 0 (λ e. omega arith)) (getD-set-other (s .jobs) n d p noJob (λ e. omega arith))
+
+  pushed-own : n < window → slotOf (pushed s n p) n ≡ p
+  pushed-own h =
+      either-way (dec (eqb n 0)) (λ e. rw e (getD-replicate window n p noJob h))
+      (λ e. rw e (getD-set-same (s .jobs) n p noJob (omega arith)))
 
 module _ (s : Server) (i : ℕ) (U L : ℕ → ℕ) (N c W : ℕ) where
   pub row-carried : (a b : State) → SameAt i a b → Row s i U L N c W a → Row s i U L N c W b
@@ -99,15 +114,15 @@ module _ (s : Server) (i : ℕ) (U L L′ : ℕ → ℕ) (N c W : ℕ) (old : (k
     new-slots : (d : ℕ) → d < countAt after i → Slot L′ (c + 1 + d) (slotOf (serverAt after i) d)
     new-slots d h =
         let u = unlinkedAt st i in
-        let jobs = (serverAt st i) .jobs in
+        let p = linkedNow due u in
         let e : N - u ≡ linkedUpTo L N = omega (arith, r .unlinked) in
         rw (push .server)
         (by-lt d n
-        (λ l. rw (getD-set-other jobs n d (linkedNow due u) noJob (λ e. omega arith))
+        (λ l. rw (pushed-before (serverAt st i) n p long d l)
         (same-slot L L′ (c + 1 + d) (slotOf (serverAt st i) d) (old (c + 1 + d) (omega arith) (omega (arith, r .count))) (r .slots d l)))
         (λ l.
         let q : d ≡ n = omega (arith, push .count) in
-        rw (q, last, getD-set-same jobs n (linkedNow due u) noJob (omega arith)) (new-slot u due (omega (arith, r .unlinked)) (rw e new))))
+        rw (q, last, pushed-own (serverAt st i) n p long room) (new-slot u due (omega (arith, r .unlinked)) (rw e new))))
 
     new-first : 0 < countAt after i → firstAt after i ≡ priorityOf s (c + 1) * places + i
     new-first h =
