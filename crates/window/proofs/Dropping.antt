@@ -2,24 +2,21 @@
 -- lists keep their lengths.
 use mathlib.Core.Path.{_≡_, refl, ap, _∙_}
 use mathlib.Core.Bool.{Bool, true, false, cond}
-use mathlib.Core.List.{List}
 use Prim.Native.Nat.{ℕ, suc, _+_, _*_, _-_, _≤_, _<_, max}
 use native.Mathlib.Omega.{arith}
 use lib.Dec.{ltb}
-use lib.ListN.{length, getD, length-set}
+use lib.ListN.{length, length-set}
 use lib.Seq.{getD-set-same, getD-set-other}
 use borrow.Author.Tests.{lt-ltb, le-ltb}
 use Rattle.rules.specs.Lists.{one?}
 use Rattle.rules.specs.Servers.{Server}
 use Rattle.rules.specs.ServerJobs.{priorityOf}
-use Rattle.rules.proofs.Tests.{by-lt, one-le-one}
+use Rattle.rules.proofs.Tests.{one-le-one}
 use Rattle.rules.proofs.LinkRows.{linkedUpTo, linked-last, linked-le}
 use Rattle.table.specs.declared.Pending.{Pending}
-use Rattle.table.specs.declared.Server.{Server as Window}
 use Rattle.table.specs.declared.State.{State}
 use Rattle.window.specs.declared.Plan.{Plan}
-use Rattle.window.specs.Entries.{places, window, lastKey, further, noJob, noServer, slotOf, serverAt, countAt, firstAt, unfinishedAt, worstAt, nextAt, leftAt, periodAt, stepAt}
-use Rattle.window.specs.Loops.{replaced}
+use Rattle.window.specs.Entries.{places, window, further, noJob, noServer, slotOf, serverAt, countAt, firstAt, unfinishedAt, worstAt, nextAt, leftAt, periodAt, stepAt}
 use Rattle.window.specs.Finishing.{responseOf, shifted, laterKey, finishedWith}
 use Rattle.window.proofs.Relation.{Slot, Row, Sized}
 use Rattle.window.proofs.Loops.{replaced-length, replaced-in, SameAt}
@@ -42,7 +39,7 @@ module _ (plan : Plan) (now : ℕ) (st : State) (i : ℕ) (sized : Sized st) (in
   abbrev moreWorst : ℕ
   moreWorst = max (worstAt st i) (response (oldest .behind))
 
-  pub drop-count : countAt next i ≡ n - 1
+  drop-count : countAt next i ≡ n - 1
   drop-count = getD-set-same (st .count) i (n - 1) 0 (omega (arith, sized .count))
 
   drop-first : firstAt next i ≡ laterKey n (firstAt st i) (stepAt plan i)

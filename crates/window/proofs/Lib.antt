@@ -23,3 +23,5 @@ pub mod Spending
 pub mod Responding
 pub mod Moving
 pub mod Dropping
+pub mod Finished
+pub mod Working

@@ -68,6 +68,17 @@ pub left-over : (S : List Server) (cap : ℕ → ℕ) (t i k : ℕ) → 0 < budg
 left-over S cap t i k b l =
     by-lt (releasedBefore (srv S i) t) k (λ z. omega (arith, used-out S cap t i k z)) (λ z. not-complete S cap t i k (omega arith) z l)
 
+module _ (X : Box) (t d i : ℕ) where
+  -- of the job linked to server job k of node i, where it finishes in a span from t on that ends at v
+  abbrev responseTo : ℕ → ℕ → ℕ
+  responseTo v k =
+      responseAt X (whole (X .servers)) (used (X .servers) (X .cap) t) (used (X .servers) (X .cap) v)
+      (links (X .servers) (X .cap) (whole (X .servers)) (suc t)) v i k
+
+  -- the largest response so far, of the server jobs up to c
+  pub worstUpTo : ℕ → ℕ
+  worstUpTo c = max (largest (λ (k : ℕ). responseTo (t + d) k) (upTo c)) (figure X (whole (X .servers)) i t)
+
 module _ (X : Box) (t d : ℕ) (quiet : Quiet (X .servers) (X .cap) t d) (some : 1 ≤ d) where
   abbrev S : List Server
   S = X .servers
@@ -96,16 +107,11 @@ module _ (X : Box) (t d : ℕ) (quiet : Quiet (X .servers) (X .cap) t d) (some :
     abbrev jobOf : ℕ → ℕ
     jobOf k = linkOf S (X .cap) (whole S) (suc t) i k
 
-    -- of the job linked to server job k, where it finishes in the span and that ends at v
-    abbrev responseTo : ℕ → ℕ → ℕ
-    responseTo v k = responseAt X (whole S) (used S (X .cap) t) (used S (X .cap) v) (links S (X .cap) (whole S) (suc t)) v i k
-
     abbrev response : ℕ → ℕ
-    response k = responseTo (t + d) k
+    response k = responseTo X t d i (t + d) k
 
-    -- the largest response so far, of the server jobs up to c
-    pub worstUpTo : ℕ → ℕ
-    worstUpTo c = max (largest response (upTo c)) (figure X (whole S) i t)
+    abbrev worst : ℕ → ℕ
+    worst c = worstUpTo X t d i c
 
     complete-before : (k : ℕ) → budget ≤ ticks t k → response k ≡ 0
     unfolding responseAt whole
@@ -124,7 +130,7 @@ module _ (X : Box) (t d : ℕ) (quiet : Quiet (X .servers) (X .cap) t d) (some :
         same true = refl
         same false = refl
 
-    pub worst-at-first : worstUpTo (completed S (X .cap) t i) ≡ figure X (whole S) i t
+    pub worst-at-first : worst (completed S (X .cap) t i) ≡ figure X (whole S) i t
     unfolding worstUpTo
     worst-at-first =
         let c = completed S (X .cap) t i in
@@ -134,7 +140,7 @@ module _ (X : Box) (t d : ℕ) (quiet : Quiet (X .servers) (X .cap) t d) (some :
         omega arith
 
     figure-at : (v : ℕ) → v ≡ suc (t + last)
-        → figure X (whole S) i v ≡ max (largest (λ (k : ℕ). responseTo v k) (upTo (released (srv S i) t))) (figure X (whole S) i t)
+        → figure X (whole S) i v ≡ max (largest (λ (k : ℕ). responseTo X t d i v k) (upTo (released (srv S i) t))) (figure X (whole S) i t)
     unfolding finishing
     figure-at v e =
         let after =
@@ -144,7 +150,7 @@ module _ (X : Box) (t d : ℕ) (quiet : Quiet (X .servers) (X .cap) t d) (some :
     figure-at-end : figure X (whole S) i (t + d) ≡ max (largest response (upTo (released (srv S i) t))) (figure X (whole S) i t)
     figure-at-end = figure-at (t + d) end-is
 
-    pub worst-at-last : worstUpTo (completed S (X .cap) (t + d) i) ≡ figure X (whole S) i (t + d)
+    pub worst-at-last : worst (completed S (X .cap) (t + d) i) ≡ figure X (whole S) i (t + d)
     unfolding worstUpTo
     worst-at-last =
         let c = completed S (X .cap) (t + d) i in
@@ -159,7 +165,7 @@ module _ (X : Box) (t d : ℕ) (quiet : Quiet (X .servers) (X .cap) t d) (some :
 
     -- one more that completes in this span adds the response of its linked job
     pub worst-next : (c : ℕ) → completed S (X .cap) t i ≤ c → budget ≤ ticks (t + d) (c + 1)
-        → worstUpTo (c + 1) ≡ cond (ltb 0 (jobOf (c + 1))) (max (worstUpTo c) (t + d - releaseOf (srv S i) (jobOf (c + 1)))) (worstUpTo c)
+        → worst (c + 1) ≡ cond (ltb 0 (jobOf (c + 1))) (max (worst c) (t + d - releaseOf (srv S i) (jobOf (c + 1)))) (worst c)
     unfolding worstUpTo
     worst-next c l h =
         let own = complete-now (c + 1) h (left-over S (X .cap) t i (c + 1) budget-some (omega arith)) in

@@ -8,8 +8,7 @@ use native.Mathlib.Omega.{arith}
 use lib.Dec.{T}
 use lib.ListN.{length, getD}
 use borrow.Author.Tests.{lt-ltb, le-ltb}
-use Rattle.rules.specs.Servers.{Server, srv, Box}
-use Rattle.rules.specs.ServerJobs.{releaseOf, released}
+use Rattle.rules.specs.Servers.{Server, Box}
 use Rattle.rules.proofs.Tests.{by-lt}
 use Rattle.rules.proofs.InTurn.{budgetOf, usedBy, running, completed}
 use Rattle.rules.proofs.InTurn as InTurn
@@ -23,7 +22,7 @@ use Rattle.window.specs.Spending.{ticksTo, placeAt, lesser, leastLeft}
 use Rattle.window.specs.Working.{spanOf}
 use Rattle.window.proofs.Relation.{lastInstant, Fits, Released}
 use Rattle.window.proofs.Earliest.{earliest-after, earliest-release}
-use Rattle.window.proofs.Chosen.{ChosenAt, chosen-is, entry-runs, runs-at}
+use Rattle.window.proofs.Chosen.{ChosenAt, entry-runs, runs-at}
 
 module _ (x least : ℕ) where
   lesser-most : lesser x least ≤ least

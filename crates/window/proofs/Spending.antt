@@ -1,7 +1,7 @@
 -- The ticks of a span, used at once: the budget left of each slot that runs falls by them, and no other. So the rows have the ticks used before
 -- the span's end, with what is complete then still in the windows.
 use mathlib.Core.Path.{_≡_, refl, sym, ap, _∙_}
-use mathlib.Core.Bool.{Bool, false}
+use mathlib.Core.Bool.{false}
 use mathlib.Core.List.{List}
 use Prim.Native.Nat.{ℕ, zero, suc, _+_, _*_, _-_, _≤_, _<_}
 use native.Mathlib.Nat.{le-refl, not-suc-le-zero, mul-zero, mul-one}
@@ -19,7 +19,7 @@ use Rattle.rules.proofs.Linking.{linkOf}
 use Rattle.rules.proofs.QuietSpans.{grown}
 use Rattle.table.specs.declared.State.{State}
 use Rattle.window.specs.declared.Plan.{Plan}
-use Rattle.window.specs.Entries.{places, window, countAt, leftAt}
+use Rattle.window.specs.Entries.{window, countAt, leftAt}
 use Rattle.window.specs.Choosing.{Picks, chosen}
 use Rattle.window.specs.Spending.{placeAt, spent}
 use Rattle.window.specs.Working.{withLeft}
