@@ -1,29 +1,26 @@
 -- What the choice of a state comes to: its r-th entry is the ready server job of rank r, by its key and by the place of its budget left; and
 -- the server jobs that run in the tick are those entries.
-use mathlib.Core.Path.{_≡_, refl, sym, ap, _∙_}
-use mathlib.Core.Bool.{_&&_}
+use mathlib.Core.Path.{_≡_, sym, ap, _∙_}
 use mathlib.Core.List.{List}
-use mathlib.Core.Logic.{_⊎_}
-use Prim.Native.Nat.{ℕ, suc, _+_, _*_, _%_, _≤_, _<_, min}
-use native.Mathlib.Nat.{le-refl}
+use Prim.Native.Nat.{ℕ, suc, _+_, _*_, _≤_, _<_}
 use native.Mathlib.Omega.{arith}
 use lib.Dec.{T, ltb, ltb→lt, lt→ltb}
 use lib.ListN.{length, getD, length-replicate}
 use Rattle.rules.specs.Limits as Limits
-use Rattle.rules.specs.Servers.{Server, srv, Box}
-use Rattle.rules.specs.ServerJobs.{ServerJob, priorityOf, ready, rank, runs, used}
-use Rattle.rules.proofs.Tests.{and-l, and-r, and-i, by-lt, either-way}
+use Rattle.rules.specs.Servers.{Server, Box}
+use Rattle.rules.specs.ServerJobs.{ServerJob, runs}
+use Rattle.rules.proofs.Tests.{and-l, and-r, and-i, by-lt}
 use Rattle.rules.proofs.Counts.{serverJob}
 use Rattle.rules.proofs.InTurn.{running, completed}
 use Rattle.table.specs.declared.State.{State}
 use Rattle.window.specs.declared.Plan.{Plan}
-use Rattle.window.specs.Entries.{places, window, lastKey, countAt, nodesOf}
-use Rattle.window.specs.Choosing.{Picks, chosen, noRun, noAt}
+use Rattle.window.specs.Entries.{window, lastKey, nodesOf}
+use Rattle.window.specs.Choosing.{chosen, noRun, noAt}
 use Rattle.window.proofs.Relation.{lastInstant, Fits, Released}
 use Rattle.window.proofs.Places.{nodes-are}
 use Rattle.window.proofs.Keys.{keyOf, slotJob, slotKey, readySlots, key-small, keys-rise, next-key, standing, slot-ready}
 use Rattle.window.proofs.Ranks.{readyAt, rankAt, below, below-grows, below-same, below-none, below-next, rank-is, same-key}
-use Rattle.window.proofs.Picking.{Laid, Entry, Picked, picked}
+use Rattle.window.proofs.Picking.{Laid, Picked, picked}
 
 -- entry r of the choice: the server job in a slot that is ready, of rank r
 pub record ChosenAt (X : Box) (plan : Plan) (t : ℕ) (st : State) (r : ℕ) : Type 0 where

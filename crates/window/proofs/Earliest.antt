@@ -32,15 +32,19 @@ module _ (X : Box) (plan : Plan) (fits : Fits X plan) (t : ℕ) (early : t ≤ l
   abbrev first : ℕ
   first = earliest (st .next) (nodesOf plan)
 
-  pub earliest-each : (i : ℕ) → i < length (X .servers) → first ≤ nextAt st i
+  earliest-each : (i : ℕ) → i < length (X .servers) → first ≤ nextAt st i
   earliest-each i h = earliest-le (st .next) (nodesOf plan) i (omega (arith, nodes-are X plan fits))
 
-  pub earliest-from : InStep X t st → t ≤ first
+  earliest-from : InStep X t st → t ≤ first
   earliest-from now =
       le-earliest (st .next) (nodesOf plan) t (omega arith)
       (λ i l.
       let h : i < length (X .servers) = omega (arith, nodes-are X plan fits) in
       omega (arith, (now .row i h) .next, release-from (srv (X .servers) i) ((fits .at i h) .period-some) t))
+
+  -- a server that releases at t
+  pub earliest-now : InStep X t st → (i : ℕ) → i < length (X .servers) → nextAt st i ≡ t → t ≡ first
+  earliest-now now i h e = omega (arith, earliest-each i h, earliest-from now)
 
   pub earliest-after : Released X t st → t < first
   earliest-after now =

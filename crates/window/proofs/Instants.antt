@@ -59,14 +59,6 @@ module _ (s : Server) (some : 0 < s .period) where
   release-from zero = omega arith
   release-from (suc t) = release-after t
 
-  -- and no later than a period after t, or than the offset
-  pub release-near : (t : ℕ) → releaseOf s (suc (released s t)) ≤ t + s .period + s .offset
-  release-near t = go (released s t) (released-by t)
-    where
-      go : (n : ℕ) → ((k : ℕ) → 1 ≤ k → k ≤ n → releaseOf s k ≤ t) → releaseOf s (suc n) ≤ t + s .period + s .offset
-      go zero h = omega (arith, release-next s 0, zero-mul (s .period))
-      go (suc n) h = omega (arith, next-release s (suc n) (omega arith), h (suc n) (omega arith) (omega arith))
-
   -- `next` is the next release of those that are not before t
   module _ (t next : ℕ) (is : next ≡ releaseOf s (suc (releasedBefore s t))) where
     pub releases-now : released s t ≡ releasedBefore s t + one? (eqb next t)

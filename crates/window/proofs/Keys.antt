@@ -16,7 +16,7 @@ use Rattle.rules.proofs.Ready.{priority, before-is, is-before-lt, is-before-eq,
 use Rattle.rules.proofs.InTurn.{no-budget, completed, ready-are-first}
 use Rattle.table.specs.declared.State.{State}
 use Rattle.window.specs.declared.Plan.{Plan}
-use Rattle.window.specs.Entries.{places, lastKey, further, countAt, firstAt, levelAt, stepAt}
+use Rattle.window.specs.Entries.{places, lastKey, further, countAt, levelAt, stepAt}
 use Rattle.window.specs.Choosing.{readyOf}
 use Rattle.window.proofs.Relation.{lastInstant, Fits, Released}
 use Rattle.window.proofs.Instants.{next-priority, released-by}
@@ -77,7 +77,7 @@ module _ (X : Box) (plan : Plan) (t : ℕ) (st : State) (fits : Fits X plan) (re
       omega (arith, next-priority (srv S i) k u, (fits .at i h) .step, key-small i (suc k) h (omega arith) v)
 
   -- rule 4: the ready ones are the first m after the complete ones
-  pub ready-in : (i k : ℕ) → i < length S → c i < k → k ≤ c i + m i → T (ready S σ t (serverJob i k))
+  ready-in : (i k : ℕ) → i < length S → c i < k → k ≤ c i + m i → T (ready S σ t (serverJob i k))
   ready-in i k h l g =
       let P = fits .at i h in
       let n = released (srv S i) t in

@@ -1,19 +1,17 @@
 -- The choice goes best after best: where each server's keys rise and no key stands twice, the r-th that is picked is the slot with r keys below
 -- its own, and as many are picked as there are, up to the number asked for.
 use mathlib.Core.Path.{_≡_, refl, sym, ap, _∙_}
-use mathlib.Core.Bool.{Bool, cond}
 use mathlib.Core.List.{List}
 use mathlib.Core.Logic.{_⊎_, inl, inr}
-use Prim.Native.Nat.{ℕ, zero, suc, _+_, _*_, _%_, _≤_, _<_, min, zero-le}
+use Prim.Native.Nat.{ℕ, zero, suc, _+_, _*_, _%_, _≤_, _<_, zero-le}
 use native.Mathlib.Nat.{le-refl, not-suc-le-zero}
 use native.Mathlib.Omega.{arith}
-use lib.Dec.{ltb, eqb}
 use lib.ListN.{length, getD, set, replicate, length-set, length-replicate, getD-replicate}
 use lib.Seq.{getD-set-same, getD-set-other}
 use borrow.Author.Tests.{lt-ltb, le-ltb, eq-eqb, ne-eqb}
 use Rattle.rules.proofs.Tests.{by-lt, either-way}
 use Rattle.window.specs.Entries.{places, window, lastKey, further}
-use Rattle.window.specs.Choosing.{Picks, readyOf, headFrom, bestFrom, placeOf, pickKey, pickNext, picks}
+use Rattle.window.specs.Choosing.{Picks, readyOf, headFrom, bestFrom, pickKey, pickNext, picks}
 
 -- two places are the same, or not
 pub by-same : {C : Type 0} (j i : ℕ) → (j ≡ i → C) → ((j ≡ i → ⊥) → C) → C
@@ -264,7 +262,7 @@ module _ (first count level step : List ℕ) (n : ℕ) (K : ℕ → ℕ → ℕ)
               with-lists (c .heads) (c .taken) (q .heads-long) (q .taken-long) (λ j z. refl) (λ j z. refl) here (q .head i h some)
               (λ z. omega (arith, here)) (omega arith)
 
-    pub pick-next : Picked most (suc k) (pickNext first count level step n c)
+    pick-next : Picked most (suc k) (pickNext first count level step n c)
     pick-next =
         by-lt b lastKey (λ l. rw (ne-eqb b lastKey (λ e. omega arith)) (found l))
         (λ l.

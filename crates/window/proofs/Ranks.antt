@@ -1,6 +1,6 @@
 -- The rank of a server job is how many keys of ready server jobs are below its own. No two ready server jobs have the same key, so each key
 -- counts once.
-use mathlib.Core.Path.{_≡_, refl, sym, ap, _∙_}
+use mathlib.Core.Path.{_≡_, refl, _∙_}
 use mathlib.Core.Bool.{Bool, true, false, _&&_}
 use mathlib.Core.List.{List, [], _∷_}
 use mathlib.Core.Logic.{_⊎_}
