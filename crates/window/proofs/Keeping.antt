@@ -33,7 +33,7 @@ module _ (b : State) (old : Kept) (n : ℕ) (sized : KeptSized old) where
   keep-sized =
       record {
         servers = replaced-length (serverAt b) (old .servers) n ∙ sized .servers;
-        left = replaced-length (λ (k : ℕ). getD (b .left) k 0) (old .left) (n * window) ∙ sized .left;
+        left = replaced-length _ (old .left) _ ∙ sized .left;
       }
 
   pub keep-holds : n ≤ places → Holds b n (keep b old n)
@@ -41,7 +41,7 @@ module _ (b : State) (old : Kept) (n : ℕ) (sized : KeptSized old) where
       record {
         server = λ i h. replaced-in (serverAt b) (old .servers) n i noServer h (omega (arith, sized .servers));
         left = λ i d h l.
-            replaced-in (λ (k : ℕ). getD (b .left) k 0) (old .left) (n * window) (i * window + d) 0 (omega arith) (omega (arith, sized .left));
+            replaced-in _ (old .left) _ (i * window + d) 0 (omega arith) (omega (arith, sized .left));
         count = λ i h. refl;
         unfinished = λ i h. refl;
         unlinked = λ i h. refl;

@@ -20,11 +20,11 @@ use Rattle.rules.proofs.InTurn.{usedBy, used-out, completed, completed-le}
 use Rattle.rules.proofs.Linking.{linkOf, links-old, same-count}
 use Rattle.table.specs.declared.State.{State}
 use Rattle.window.specs.declared.Plan.{Plan}
-use Rattle.window.specs.Entries.{places, window, further, noServer, serverAt, countAt, firstAt, unfinishedAt, unlinkedAt, nextAt}
-use Rattle.window.specs.Entries.{budgetAt, afterAt, periodAt, leadAt, roomAt, nodesOf}
+use Rattle.window.specs.Entries.{places, window, noServer, serverAt, countAt, unfinishedAt, unlinkedAt, nextAt}
+use Rattle.window.specs.Entries.{budgetAt, roomAt, nodesOf}
 use Rattle.window.specs.Loops.{inTurn}
-use Rattle.window.specs.Releasing.{earliest, fullAt, anyFull, releasesAt, allFewer, linkedNow, newKey, pushed, oneMore}
-use Rattle.window.specs.Releasing.{countedUnlinked, releasedWith, releaseOne, releasedAt}
+use Rattle.window.specs.Releasing.{earliest, fullAt, anyFull, releasesAt, oneMore}
+use Rattle.window.specs.Releasing.{dueAt, keyAt, laterAt, countedUnlinked, releasedWith, releaseOne, releasedAt}
 use Rattle.window.specs.Releasing as Engine
 use Rattle.window.proofs.Relation.{lastInstant, Fits, Row, Sized, InStep, Released}
 use Rattle.window.proofs.Loops.{below-some, SameAt, same-at-self, PlaceByPlace, in-turn-sized, in-turn-at}
@@ -47,6 +47,23 @@ by-eq {C} a b f g = go (ℕ-discrete a b)
     go (yes e) = f e
     go (no e) = g e
 
+-- a number written, or not
+length-if : (b : Bool) (xs : List ℕ) (i x : ℕ) → length (cond b (set xs i x) xs) ≡ length xs
+length-if true xs i x = length-set xs i x
+length-if false xs i x = refl
+
+length-unless : (b : Bool) (xs : List ℕ) (i x : ℕ) → length (cond b xs (set xs i x)) ≡ length xs
+length-unless true xs i x = refl
+length-unless false xs i x = length-set xs i x
+
+other-if : (b : Bool) (xs : List ℕ) (n i x : ℕ) → (i ≡ n → ⊥) → getD (cond b (set xs n x) xs) i 0 ≡ getD xs i 0
+other-if true xs n i x e = getD-set-other xs n i x 0 e
+other-if false xs n i x e = refl
+
+other-unless : (b : Bool) (xs : List ℕ) (n i x : ℕ) → (i ≡ n → ⊥) → getD (cond b xs (set xs n x)) i 0 ≡ getD xs i 0
+other-unless true xs n i x e = refl
+other-unless false xs n i x e = getD-set-other xs n i x 0 e
+
 first-entered : (b : Bool) (xs : List ℕ) (i key : ℕ) → i < length xs → getD (cond b (set xs i key) xs) i 0 ≡ cond b key (getD xs i 0)
 first-entered true xs i key h = getD-set-same xs i key 0 h
 first-entered false xs i key h = refl
@@ -61,53 +78,37 @@ module _ (plan : Plan) (t : ℕ) (before : List ℕ) where
   abbrev step : State → ℕ → State
   step st n = releaseOne plan t before st n
 
-  abbrev due? : State → ℕ → Bool
-  due? st n = allFewer before (afterAt plan n) (unlinkedAt st n)
-
   abbrev now? : State → ℕ → Bool
   now? st n = releasesAt (st .next) (st .count) n t
 
   with-sized : (st : State) (n : ℕ) → n < places → Sized st → Sized (releasedWith plan t before st n)
   with-sized st n l ok =
-      let due = due? st n in
-      let new = pushed (serverAt st n) (countAt st n) (linkedNow due (unlinkedAt st n)) in
-      let key = newKey t (leadAt plan n) in
-      let more = oneMore (unlinkedAt st n) in
-      let long : List ℕ → Type 0 = λ l. length l ≡ places in
       record {
-        servers = length-set (st .servers) n new ∙ ok .servers;
+        servers = length-set (st .servers) n _ ∙ ok .servers;
         jobs = λ i h.
             by-eq i n
-            (λ e. rw (e, getD-set-same (st .servers) n new noServer (omega (arith, ok .servers)))
-            (pushed-length (serverAt st n) (countAt st n) (linkedNow due (unlinkedAt st n)) (ok .jobs n l)))
-            (λ e. rw (getD-set-other (st .servers) n i new noServer e) (ok .jobs i h));
-        left = length-set (st .left) (n * window + countAt st n) (budgetAt plan n) ∙ ok .left;
-        first =
-            cond-has long (eqb (countAt st n) 0) (set (st .first) n key) (st .first) (λ _. length-set (st .first) n key ∙ ok .first) (ok .first);
-        count = length-set (st .count) n (countAt st n + 1) ∙ ok .count;
-        unfinished = length-set (st .unfinished) n (oneMore (unfinishedAt st n)) ∙ ok .unfinished;
-        unlinked =
-            cond-has long due (st .unlinked) (set (st .unlinked) n more) (λ _. ok .unlinked) (length-set (st .unlinked) n more ∙ ok .unlinked);
+            (λ e. rw (e, getD-set-same (st .servers) n _ noServer (omega (arith, ok .servers)))
+            (pushed-length (serverAt st n) (countAt st n) _ (ok .jobs n l)))
+            (λ e. rw (getD-set-other (st .servers) n i _ noServer e) (ok .jobs i h));
+        left = length-set (st .left) (n * window + countAt st n) _ ∙ ok .left;
+        first = length-if (eqb (countAt st n) 0) (st .first) n _ ∙ ok .first;
+        count = length-set (st .count) n _ ∙ ok .count;
+        unfinished = length-set (st .unfinished) n _ ∙ ok .unfinished;
+        unlinked = length-unless (dueAt plan before st n) (st .unlinked) n _ ∙ ok .unlinked;
         worst = ok .worst;
-        next = length-set (st .next) n (further (nextAt st n) (periodAt plan n)) ∙ ok .next;
+        next = length-set (st .next) n _ ∙ ok .next;
       }
 
   with-others : (st : State) (n i : ℕ) → countAt st n < window → (i ≡ n → ⊥) → SameAt i st (releasedWith plan t before st n)
   with-others st n i room e =
-      let key = newKey t (leadAt plan n) in
-      let more = oneMore (unlinkedAt st n) in
       record {
         server = getD-set-other (st .servers) n i _ noServer e;
-        count = getD-set-other (st .count) n i (countAt st n + 1) 0 e;
-        first =
-            cond-has (λ (l : List ℕ). getD l i 0 ≡ firstAt st i) (eqb (countAt st n) 0) (set (st .first) n key) (st .first)
-            (λ _. getD-set-other (st .first) n i key 0 e) refl;
-        unfinished = getD-set-other (st .unfinished) n i (oneMore (unfinishedAt st n)) 0 e;
-        unlinked =
-            cond-has (λ (l : List ℕ). getD l i 0 ≡ unlinkedAt st i) (due? st n) (st .unlinked) (set (st .unlinked) n more) (λ _. refl)
-            (getD-set-other (st .unlinked) n i more 0 e);
+        count = getD-set-other (st .count) n i _ 0 e;
+        first = other-if (eqb (countAt st n) 0) (st .first) n i _ e;
+        unfinished = getD-set-other (st .unfinished) n i _ 0 e;
+        unlinked = other-unless (dueAt plan before st n) (st .unlinked) n i _ e;
         worst = refl;
-        next = getD-set-other (st .next) n i (further (nextAt st n) (periodAt plan n)) 0 e;
+        next = getD-set-other (st .next) n i _ 0 e;
         left = λ d h. getD-set-other (st .left) (n * window + countAt st n) (i * window + d) _ 0 (λ q. omega arith);
       }
 
@@ -125,18 +126,18 @@ module _ (plan : Plan) (t : ℕ) (before : List ℕ) where
   -- what it puts there
   with-pushed : (st : State) (i budget : ℕ) → i < places → Sized st → countAt st i < window → unfinishedAt st i < 2 ^ 8 - 1
       → unlinkedAt st i < 2 ^ 8 - 1 → budgetAt plan i ≡ budget
-      → PushedAt i (due? st i) budget (newKey t (leadAt plan i)) (further (nextAt st i) (periodAt plan i)) st (releasedWith plan t before st i)
+      → PushedAt i (dueAt plan before st i) budget (keyAt plan t i) (laterAt plan st i) st (releasedWith plan t before st i)
   with-pushed st i budget l ok room few fewer e =
       record {
         server = getD-set-same (st .servers) i _ noServer (omega (arith, ok .servers));
         count = getD-set-same (st .count) i (countAt st i + 1) 0 (omega (arith, ok .count));
-        first = first-entered (eqb (countAt st i) 0) (st .first) i (newKey t (leadAt plan i)) (omega (arith, ok .first));
+        first = first-entered (eqb (countAt st i) 0) (st .first) i (keyAt plan t i) (omega (arith, ok .first));
         left = λ d h. getD-set-other (st .left) (i * window + countAt st i) (i * window + d) _ 0 (λ q. omega arith);
         left-new = getD-set-same (st .left) (i * window + countAt st i) _ 0 (omega (arith, ok .left)) ∙ e;
         unfinished = omega (arith, getD-set-same (st .unfinished) i (oneMore (unfinishedAt st i)) 0 (omega (arith, ok .unfinished)));
-        unlinked = unlinked-counted (due? st i) (st .unlinked) i (omega (arith, ok .unlinked)) fewer;
+        unlinked = unlinked-counted (dueAt plan before st i) (st .unlinked) i (omega (arith, ok .unlinked)) fewer;
         worst = refl;
-        next-is = getD-set-same (st .next) i (further (nextAt st i) (periodAt plan i)) 0 (omega (arith, ok .next));
+        next-is = getD-set-same (st .next) i (laterAt plan st i) 0 (omega (arith, ok .next));
       }
 
 module _ (X : Box) (plan : Plan) (fits : Fits X plan) (t : ℕ) (st : State) (now : InStep X t st) (early : t ≤ lastInstant)
@@ -183,14 +184,14 @@ module _ (X : Box) (plan : Plan) (fits : Fits X plan) (t : ℕ) (st : State) (no
 
     -- the key of the server job released at t is its priority and its place
     key-is : (i : ℕ) → i < length S → T (releasing i)
-        → newKey t (leadAt plan i) ≡ priorityOf (srv S i) (suc (releasedBefore (srv S i) t)) * places + i
+        → keyAt plan t i ≡ priorityOf (srv S i) (suc (releasedBefore (srv S i) t)) * places + i
     unfolding priorityOf
     key-is i h r =
         let p = fits .at i h in
         omega (arith, p .lead, p .point-most, (now .row i h) .next, eqb→eq (nextAt st i) t r, fits .small)
 
     next-is : (i : ℕ) → i < length S → T (releasing i)
-        → further (nextAt st i) (periodAt plan i) ≡ releaseOf (srv S i) (suc (suc (releasedBefore (srv S i) t)))
+        → laterAt plan st i ≡ releaseOf (srv S i) (suc (suc (releasedBefore (srv S i) t)))
     next-is i h r =
         let p = fits .at i h in
         let n = releasedBefore (srv S i) t in
@@ -250,8 +251,8 @@ module _ (X : Box) (plan : Plan) (fits : Fits X plan) (t : ℕ) (st : State) (no
           with-pushed plan t (st .unfinished) before i (s .budget) inside ok room (omega (arith, same .unfinished))
           (omega (arith, same .unlinked, unlinked-in-step X plan fits t st now i h)) ((fits .at i h) .budget) in
           rw n
-          (row-pushed s i U L L′ N c W old (allFewer (st .unfinished) (afterAt plan i) (unlinkedAt before i)) (newKey t (leadAt plan i))
-          (further (nextAt before i) (periodAt plan i)) before after row-before push (ok .jobs i inside) room
+          (row-pushed s i U L L′ N c W old (dueAt plan (st .unfinished) before i) (keyAt plan t i) (laterAt plan before i) before after row-before push
+          (ok .jobs i inside) room
           (used-out S (X .cap) t i (suc N) (omega arith)) (rw (same .unlinked) (new-link X plan fits t st now i h (omega arith)))
           (λ _. key-is i h r) (rw (same .next) (next-is i h r)))
 

@@ -58,20 +58,30 @@ enteredFirst first i n key = cond (eqb n 0) (set first i key) first
 abbrev pub countedUnlinked : List ℕ → ℕ → Bool → List ℕ
 countedUnlinked unlinked i due = cond due unlinked (set unlinked i (oneMore (getD unlinked i 0)))
 
--- `before` are the unfinished jobs before the releases of t
+-- the next job at place i is due; `before` are the unfinished jobs before the releases of t
+abbrev pub dueAt : Plan → List ℕ → State → ℕ → Bool
+dueAt plan before st i = allFewer before (afterAt plan i) (unlinkedAt st i)
+
+-- the key of the server job that place i releases at t, and the instant of its next one
+abbrev pub keyAt : Plan → (t i : ℕ) → ℕ
+keyAt plan t i = newKey t (leadAt plan i)
+
+abbrev pub laterAt : Plan → State → ℕ → ℕ
+laterAt plan st i = further (nextAt st i) (periodAt plan i)
+
 abbrev pub releasedWith : Plan → ℕ → List ℕ → State → ℕ → State
 releasedWith plan t before st i =
     let n : ℕ = countAt st i in
-    let due : Bool = allFewer before (afterAt plan i) (unlinkedAt st i) in
+    let due : Bool = dueAt plan before st i in
     record {
       servers = set (st .servers) i (pushed (serverAt st i) n (linkedNow due (unlinkedAt st i)));
       left = enteredLeft (st .left) i n (budgetAt plan i);
-      first = enteredFirst (st .first) i n (newKey t (leadAt plan i));
+      first = enteredFirst (st .first) i n (keyAt plan t i);
       count = set (st .count) i (n + 1);
       unfinished = set (st .unfinished) i (oneMore (unfinishedAt st i));
       unlinked = countedUnlinked (st .unlinked) i due;
       worst = st .worst;
-      next = set (st .next) i (further (nextAt st i) (periodAt plan i));
+      next = set (st .next) i (laterAt plan st i);
     }
 
 abbrev pub releaseOne : Plan → ℕ → List ℕ → State → ℕ → State
