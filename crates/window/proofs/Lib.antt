@@ -14,3 +14,14 @@ pub mod Release
 pub mod Viewed
 pub mod Keeping
 pub mod Compare
+pub mod Keys
+pub mod Ranks
+pub mod Picking
+pub mod Chosen
+pub mod Spans
+pub mod Spending
+pub mod Responding
+pub mod Moving
+pub mod Dropping
+pub mod Finished
+pub mod Working
