@@ -35,6 +35,7 @@ use Rattle.window.proofs.Backlog.{backlog-is}
 use Rattle.window.proofs.Release.{release-keeps}
 use Rattle.window.proofs.Keeping.{KeptSized, Holds, keep-sized, keep-holds}
 use Rattle.window.proofs.Compare.{same-states}
+use Rattle.window.proofs.Working.{works}
 use Rattle.walking.specs.declared.How.{How}
 use Rattle.walking.specs.declared.How.the-variants.{Settled, Unsettled, Backlog, Reached}
 use Rattle.walking.specs.declared.Walk.{Walk}
@@ -79,15 +80,8 @@ module _ (X : Box) where
     in-step : InStep X u of
     holds : Holds of n kept
 
--- a span of d ticks from t on, and the state at its end
-abbrev pub Spans : (X : Box) → Plan → (t boundary asked : ℕ) → State → (d : ℕ) → Type 0
-Spans X plan t boundary asked st d =
-    (1 ≤ d) × (t + d ≤ boundary) × (t + d ≤ asked) × Quiet (X .servers) (X .cap) t d × InStep X (t + d) (worked plan t d st)
-
 module _ (X : Box) (plan : Plan) (fits : Fits X plan) (hyper-some : 0 < X .hyper) (time : X .origin + X .rounds * X .hyper ≤ lastInstant)
-    (late : (i : ℕ) → i < length (X .servers) → (srv (X .servers) i) .offset ≤ X .origin)
-    (works : (t boundary asked : ℕ) (st : State) → Released X t st → t < boundary → t < asked → t ≤ lastInstant
-        → Spans X plan t boundary asked st (spanOf plan t boundary asked st)) where
+    (late : (i : ℕ) → i < length (X .servers) → (srv (X .servers) i) .offset ≤ X .origin) where
   abbrev nodes : ℕ
   nodes = nodesOf plan
 
@@ -229,8 +223,8 @@ module _ (X : Box) (plan : Plan) (fits : Fits X plan) (hyper-some : 0 < X .hyper
       before : t < asked
       before = omega (arith, k .asked-later, eqb-false t asked no-d)
 
-      span : Spans X plan t later asked a ticks
-      span = works t later asked a (now-released no-c) ((later-is no-b) .ahead) before early
+      span : (1 ≤ ticks) × (t + ticks ≤ later) × (t + ticks ≤ asked) × Quiet (X .servers) (X .cap) t ticks × InStep X (t + ticks) (worked plan t ticks a)
+      span = works X plan fits t later asked a (now-released no-c) ((later-is no-b) .ahead) before early
 
       none-inside : (e : ℕ) → e < ticks → stopAt X (need X) (t + e) ≡ none
       none-inside =
