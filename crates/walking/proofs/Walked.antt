@@ -42,8 +42,7 @@ module _ (X : Box) where
 
   at-stop : (asked : ℕ) (w : Walk) → Stops X asked w → (stop .ticks ≤ asked) × AtStop w
   at-stop asked w e =
-      let (same, how) = first-stop-is-unique X (whole (X .servers)) (e .stop) (stop .how) (w .ticks) (stop .ticks) (e .first) (stopped-is-first X (whole (X .servers))) in
-      (
+      let (same, how) = first-stop-is-unique X (whole (X .servers)) (e .stop) (stop .how) (w .ticks) (stop .ticks) (e .first) (stopped-is-first X (whole (X .servers))) in (
         omega (arith, e .by),
         record {
           how = e .how ∙ ap howOf how;
