@@ -84,7 +84,7 @@ same-at-self i a =
       left = λ d h. refl;
     }
 
-pub same-at-then : {i : ℕ} {a b c : State} → SameAt i a b → SameAt i b c → SameAt i a c
+same-at-then : {i : ℕ} {a b c : State} → SameAt i a b → SameAt i b c → SameAt i a c
 same-at-then r s =
     record {
       server = s .server ∙ r .server;
