@@ -1,9 +1,10 @@
 -- Comparing: two pending server jobs; a test of each index below a number that another names.
 use mathlib.Core.Path.{_≡_, refl, sym, _∙_}
-use mathlib.Core.Bool.{Bool, true, false, Bool·beq}
+use mathlib.Core.Bool.{Bool, true, false, not, _&&_, Bool·beq}
 use Prim.Native.Nat.{ℕ, _≤_, _<_}
 use native.Mathlib.Omega.{arith}
 use lib.Dec.{eqb}
+use borrow.Author.Tests.{not-true, not-false}
 use Rattle.table.specs.declared.Pending.{Pending}
 use Rattle.window.specs.Loops.{allBelow}
 use Rattle.window.specs.Comparing.{sameBool, samePending}
@@ -21,6 +22,13 @@ pending-linked x y e = rw (sym (beq-same (x .linked) (y .linked)) ∙ e)
 
 pub pending-other : (x y : Pending) → Bool·beq (x .linked) (y .linked) ≡ false → Bool·beq (x .linked) (y .linked) ≡ samePending x y
 pending-other x y e = rw (sym (beq-same (x .linked) (y .linked)) ∙ e, e)
+
+-- one test after another: the first that fails decides
+pub fails-here : (a b : Bool) (r : Bool) → r ≡ a → not r ≡ true → false ≡ (a && b)
+fails-here a b r e h = rw (← e, not-true r h)
+
+pub passes-here : (a b : Bool) (r : Bool) {x : Bool} → r ≡ a → not r ≡ false → x ≡ b → x ≡ (a && b)
+passes-here a b r e h f = rw (← e, not-false r h) f
 
 -- the loop's end
 module _ (p : ℕ → Bool) (most : ℕ) {n : ℕ} (e : most ≡ n) where
