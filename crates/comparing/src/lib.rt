@@ -126,6 +126,39 @@ pub fn same_left<'a>(
     true
 }
 
+// Whether all numbers of two states are the same, `hyper` ticks apart.
+pub fn same_numbers<'a>(
+    count: &'a [u8; Table::SERVERS],
+    kept_count: &'a [u8; Table::SERVERS],
+    unfinished: &'a [u8; Table::SERVERS],
+    kept_unfinished: &'a [u8; Table::SERVERS],
+    unlinked: &'a [u8; Table::SERVERS],
+    kept_unlinked: &'a [u8; Table::SERVERS],
+    next: &'a [u32; Table::SERVERS],
+    kept_next: &'a [u32; Table::SERVERS],
+    left: &'a [u16; Table::SLOTS],
+    kept_left: &'a [u16; Table::SLOTS],
+    hyper: u32,
+    n: usize,
+) -> bool
+    requires { ⌜ n ≤ places ⌝ }
+    ensures { λ r. ⌜ r ≡ Mirror.sameNumbers (now (count .entry)) (now («kept_count» .entry)) (now (unfinished .entry)) (now («kept_unfinished» .entry)) (now (unlinked .entry)) (now («kept_unlinked» .entry)) (now (next .entry)) (now («kept_next» .entry)) (now (left .entry)) (now («kept_left» .entry)) hyper n ⌝ }
+{
+    if !same_counts(count, kept_count, n) {
+        return false;
+    }
+    if !same_counts(unfinished, kept_unfinished, n) {
+        return false;
+    }
+    if !same_counts(unlinked, kept_unlinked, n) {
+        return false;
+    }
+    if !same_phases(next, kept_next, hyper, n) {
+        return false;
+    }
+    same_left(left, kept_left, count, n)
+}
+
 // The budgets left of the first n servers, kept.
 pub fn keep_left(kept: &mut [u16; Table::SLOTS], left: &[u16; Table::SLOTS], n: usize)
     requires { ⌜ n ≤ places ⌝ }

@@ -14,7 +14,7 @@ pub fn is_done<'a>(left: &'a [u16; Table::SLOTS], count: &'a [u8; Table::SERVERS
     ensures { λ r. ⌜ r ≡ Mirror.doneAt (now (left .entry)) (now (count .entry)) i ⌝ }
 {
     let n = count[i];
-    0 < n && n as u32 <= Table::PENDING && left[i * Table::WINDOW] == 0
+    0 < n && n <= Table::PENDING as u8 && left[i * Table::WINDOW] == 0
 }
 
 // The response of the job linked to the oldest of `count` server jobs, which finishes at `now`: that one was released so many periods before
@@ -50,12 +50,13 @@ pub fn shifted(s: Server) -> Server
 }
 
 // The budgets left of n slots from `base` on, each moved one place down.
-pub fn move_down(left: &mut [u16; Table::SLOTS], base: usize, n: usize)
+pub fn move_down(left: &mut [u16; Table::SLOTS], base: usize, n: u8)
     requires { ⌜ base + n ≤ slots ⌝ }
     ensures { λ r. ⌜ now (left .exit) ≡ Mirror.movedDown (now (left .entry)) base n ⌝ }
 {
+    let most = n as usize;
     let mut d: usize = 0;
-    while d + 1 < n {
+    while d + 1 < most {
         left[base + d] = left[base + d + 1];
         d += 1;
     }
@@ -73,7 +74,7 @@ pub fn leave(
     ensures { λ r. ⌜ (now (left .exit) ≡ Mirror.movedDown (now (left .entry)) (i * window) (getD (now (count .entry)) i 0)) × ((now (first .exit) ≡ set (now (first .entry)) i (Mirror.laterKey (getD (now (count .entry)) i 0) (getD (now (first .entry)) i 0) step)) × (now (count .exit) ≡ set (now (count .entry)) i (getD (now (count .entry)) i 0 - 1))) ⌝ }
 {
     let n = count[i];
-    move_down(&mut *left, i * Table::WINDOW, n as usize);
+    move_down(&mut *left, i * Table::WINDOW, n);
     first[i] = if 1 < n {
         numbers::further(first[i], step)
     } else {

@@ -3,7 +3,7 @@ use table::Pending;
 use table::Server;
 use table::Table;
 ghost use mathlib.Core.Path.{_≡_};
-ghost use Prim.Native.Nat.{_+_, _<_};
+ghost use Prim.Native.Nat.{_+_, _*_, _<_};
 ghost use lib.ListN.{getD, set};
 ghost use Rattle.window.specs.Entries.{places, window, further};
 ghost use Rattle.window.specs.Releasing as Mirror;
@@ -42,6 +42,14 @@ pub fn one_more(x: u8) -> u8
     if x < u8::MAX { x + 1 } else { x }
 }
 
+// Where the budget left of slot n of place i stands.
+pub fn slot_at(i: usize, n: u8) -> usize
+    requires { ⌜ i < places ⌝ }
+    ensures { λ r. ⌜ r ≡ i * window + n ⌝ }
+{
+    i * Table::WINDOW + n as usize
+}
+
 // One server job more at place i: its budget left, its key where it is the oldest, and how many are pending.
 pub fn enter(
     left: &mut [u16; Table::SLOTS],
@@ -55,7 +63,7 @@ pub fn enter(
     ensures { λ r. ⌜ (now (left .exit) ≡ Mirror.enteredLeft (now (left .entry)) i (getD (now (count .entry)) i 0) budget) × ((now (first .exit) ≡ Mirror.enteredFirst (now (first .entry)) i (getD (now (count .entry)) i 0) key) × (now (count .exit) ≡ set (now (count .entry)) i (getD (now (count .entry)) i 0 + 1))) ⌝ }
 {
     let n = count[i];
-    left[i * Table::WINDOW + n as usize] = budget;
+    left[slot_at(i, n)] = budget;
     if n == 0 {
         first[i] = key;
     }

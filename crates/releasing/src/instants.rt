@@ -38,7 +38,7 @@ pub fn any_full<'a>(
     let mut i: usize = 0;
     while i < n {
         if next[i] == t {
-            if Table::PENDING <= count[i] as u32 || room[i] <= unfinished[i] {
+            if Table::PENDING as u8 <= count[i] || room[i] <= unfinished[i] {
                 any = true;
             }
         }
@@ -57,5 +57,5 @@ pub fn releases<'a>(
     requires { ⌜ i < places ⌝ }
     ensures { λ r. ⌜ r ≡ Mirror.releasesAt (now (next .entry)) (now (count .entry)) i t ⌝ }
 {
-    next[i] == t && (count[i] as u32) < Table::PENDING
+    next[i] == t && count[i] < Table::PENDING as u8
 }

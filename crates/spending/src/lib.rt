@@ -2,8 +2,9 @@
 // ticks, linked or not (rule 6). Each function computes what the definition of its name in window/specs says.
 use table::Table;
 ghost use mathlib.Core.Path.{_≡_};
-ghost use Prim.Native.Nat.{_-_, _≤_, min};
+ghost use Prim.Native.Nat.{_-_, _%_, _≤_, min};
 ghost use Rattle.rules.specs.Limits as Limits;
+ghost use Rattle.window.specs.Entries.{slots};
 ghost use Rattle.window.specs.Spending as Mirror;
 
 pub fn sooner(a: u32, b: u32) -> u32
@@ -20,10 +21,21 @@ pub fn ticks_to(t: u32, release: u32, boundary: u32, asked: u32) -> u32
     if t < to { to - t } else { 1 }
 }
 
-pub fn lesser(x: u32, least: u32) -> u32
+// Where the budget left of one that runs stands.
+pub fn place_at(at: u16) -> usize
+    ensures { λ r. ⌜ r ≡ at % slots ⌝ }
+{
+    at as usize % Table::SLOTS
+}
+
+pub fn lesser(x: u16, least: u32) -> u32
     ensures { λ r. ⌜ r ≡ Mirror.lesser x least ⌝ }
 {
-    if 0 < x && x < least { x } else { least }
+    if 0 < x && (x as u32) < least {
+        x as u32
+    } else {
+        least
+    }
 }
 
 // The least budget left among the m that run, or `most` where that is less; 0 is passed over.
@@ -39,8 +51,8 @@ pub fn least_left<'a>(
     let mut least = most;
     let mut r: usize = 0;
     while r < m {
-        let k = at[r] as usize % Table::SLOTS;
-        least = lesser(left[k] as u32, least);
+        let k = place_at(at[r]);
+        least = lesser(left[k], least);
         r += 1;
     }
     least
@@ -59,7 +71,7 @@ pub fn spend(left: &mut [u16; Table::SLOTS], at: &[u16; Table::RUNNING], m: usiz
 {
     let mut r: usize = 0;
     while r < m {
-        let k = at[r] as usize % Table::SLOTS;
+        let k = place_at(at[r]);
         left[k] = less(left[k], d);
         r += 1;
     }

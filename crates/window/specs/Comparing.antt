@@ -37,6 +37,13 @@ sameSlots left kept base n = allBelow (λ (d : ℕ). eqb (getD left (base + d) 0
 abbrev pub sameLeft : List ℕ → List ℕ → List ℕ → ℕ → Bool
 sameLeft left kept count n = allBelow (λ (i : ℕ). sameSlots left kept (i * window) (getD count i 0)) n
 
+-- all but the windows
+abbrev pub sameNumbers : (count count′ unfinished unfinished′ unlinked unlinked′ next next′ left left′ : List ℕ) → (hyper n : ℕ) → Bool
+sameNumbers count count′ unfinished unfinished′ unlinked unlinked′ next next′ left left′ hyper n =
+    sameCounts count count′ n
+    && (sameCounts unfinished unfinished′ n
+    && (sameCounts unlinked unlinked′ n && (samePhases next next′ hyper n && sameLeft left left′ count n)))
+
 abbrev pub sameStates : State → Kept → ℕ → ℕ → Bool
 sameStates st kept hyper n =
     sameCounts (st .count) (kept .count) n
