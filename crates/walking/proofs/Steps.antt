@@ -8,7 +8,7 @@ use native.Mathlib.Numerals.{add-one}
 use native.Mathlib.Omega.{arith}
 use lib.Dec.{ltb, eqb}
 use borrow.Author.Tests.{lt-ltb, le-ltb, eq-eqb, ne-eqb}
-use Rattle.rules.proofs.Tests.{either-way}
+use Rattle.schedule.proofs.Tests.{either-way}
 use Rattle.table.specs.declared.State.{State}
 use Rattle.table.specs.Fresh.{freshState}
 use Rattle.window.specs.declared.Plan.{Plan}

@@ -6,7 +6,7 @@ use native.Mathlib.Nat.{sub-zero}
 use native.Mathlib.Omega.{arith}
 use lib.ListN.{length}
 use borrow.Author.Needs.{needs}
-use Rattle.rules.specs.Limits as Limits
+use Rattle.schedule.specs.Limits as Limits
 use Rattle.window.specs.Entries.{places, nodesOf}
 use Rattle.walking.specs.Walking.{walkFrom, walkOf}
 use Rattle.walking.specs.declared.Walk.{Walk}
