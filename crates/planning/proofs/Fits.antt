@@ -2,7 +2,7 @@
 -- those of its servers (`offsets-fit`, `offsets-sized`), and the largest is its largest offset (`largest-fits`).
 use mathlib.Core.Path.{_≡_, refl, sym, ap, _∙_}
 use mathlib.Core.List.{List, [], _∷_, _++_}
-use Prim.Native.Nat.{ℕ, zero, suc, _≤_, _<_, min, max}
+use Prim.Native.Nat.{ℕ, zero, suc, _≤_, _<_, max}
 use native.Mathlib.Omega.{arith}
 use lib.Dec.{T, ltb}
 use lib.ListN.{length, getD, take}
@@ -19,14 +19,14 @@ use Rattle.table.specs.Fresh as Fresh
 use Rattle.window.specs.Entries.{places}
 use Rattle.window.proofs.Relation.{Fits}
 use Rattle.reading.specs.Memory.{memoryOf}
-use Rattle.planning.specs.Narrowing.{most16}
-use Rattle.planning.specs.Plans.{planOf}
+use Rattle.rules.proofs.ReadWellFormed.{nodesIn}
+use Rattle.planning.specs.Plans.{planTo, planOf}
 use Rattle.planning.specs.Offsets.{offsetsOf, largestTo, largestOffsetOf}
 use Rattle.planning.proofs.Located.{noGraph, graphAt, located}
 use Rattle.planning.proofs.Servers.{sinks-below}
 use Rattle.reading.proofs.MemoryLaws.{processors-stay}
-use Rattle.planning.proofs.Entries.{all-graphs, plan-processors, plan-nodes, offset-at, offsets-length}
-use Rattle.planning.proofs.NodeFits.{few, room, laid, graph-ok, some, servers, server, node-planned}
+use Rattle.planning.proofs.Entries.{all-graphs, offset-entry, offsets-length}
+use Rattle.planning.proofs.NodeFits.{few, room, laid, some, servers, server, node-planned}
 
 -- the largest of a list, entry after entry
 largest-last : {A : Type 0} (f : A → ℕ) (l : List A) (a : A) → largest f (l ++ (a ∷ [])) ≡ max (largest f l) (f a)
@@ -41,16 +41,20 @@ module _ (X : Rules.Table) (ok : T (wellFormed X)) where
   S = boxOf X .servers
 
   processors : planOf (memoryOf X) .processors ≡ X .processors
-  processors = plan-processors (memoryOf X) Gs (laid X ok) (few X ok) (room X ok) ∙ processors-stay Gs (Fresh.emptyTable (X .processors) (X .rounds))
+  unfolding planTo
+  processors = processors-stay Gs (Fresh.emptyTable (X .processors) (X .rounds))
+
+  nodes : planOf (memoryOf X) .nodes ≡ nodesIn Gs
+  unfolding planTo
+  nodes = laid X ok .nodes
 
   pub plan-fits : Fits (boxOf X) (planOf (memoryOf X))
   plan-fits =
       let limits = within-limits Limits.processors (X .processors) (table-formed X (T-true ok) .processors) in
       record {
-        nodes = plan-nodes (memoryOf X) Gs (laid X ok) (few X ok) (room X ok) ∙ sym (servers X ok);
+        nodes = nodes ∙ sym (servers X ok);
         small = omega (arith, servers X ok, room X ok);
         cap = λ t. sym processors;
-        processors-some = omega (arith, processors, limits .0);
         processors-most = omega (arith, processors, limits .1);
         sinks-in = true-T (all? (λ (i : ℕ). ltb i (length S)) (boxOf X .sinks)) (sinks-below Gs 0 (length S) (some X ok) (omega (arith, servers X ok)));
         at = λ i h.
@@ -58,17 +62,14 @@ module _ (X : Rules.Table) (ok : T (wellFormed X)) where
       }
 
   pub offsets-sized : length (offsetsOf (memoryOf X)) ≡ places
-  offsets-sized = offsets-length (memoryOf X) Gs (laid X ok) (few X ok) (room X ok)
+  offsets-sized = offsets-length (memoryOf X) Gs (laid X ok) (few X ok) (room X ok) (some X ok)
 
   pub offsets-fit : (i : ℕ) → i < length S → getD (offsetsOf (memoryOf X)) i 0 ≡ srv S i .offset
   offsets-fit i h =
       let at = located Gs i (omega (arith, servers X ok)) in
-      let G = graphAt Gs (at .g) in
-      let small = within-limits Limits.offset (G .offset) (graph-ok X ok (at .g) (at .graph-in) .offset) in
-      let e : min (G .offset) most16 ≡ G .offset = omega arith in
       rw (at .place)
-      (offset-at (memoryOf X) Gs (laid X ok) (few X ok) (room X ok) (at .g) (at .q) (at .graph-in) (at .node-in)
-      ∙ e ∙ sym (ap (λ (s : Server). s .offset) (server X ok (at .g) (at .q) (at .graph-in) (at .node-in))))
+      (offset-entry (memoryOf X) Gs (laid X ok) (few X ok) (room X ok) (some X ok) (at .g) (at .q) (at .graph-in) (at .node-in)
+      ∙ sym (ap (λ (s : Server). s .offset) (server X ok (at .g) (at .q) (at .graph-in) (at .node-in))))
 
   largest-to : (n : ℕ) → n ≤ length Gs → largestTo (memoryOf X) n ≡ largest (λ (G : Rules.Graph). G .offset) (take n Gs)
   unfolding largestTo
@@ -80,6 +81,6 @@ module _ (X : Rules.Table) (ok : T (wellFormed X)) where
   pub largest-fits : largestOffsetOf (memoryOf X) ≡ largestOffset X
   unfolding largestOffset
   largest-fits =
-      ap (largestTo (memoryOf X)) (all-graphs (memoryOf X) Gs (laid X ok) (few X ok) (room X ok))
+      ap (largestTo (memoryOf X)) (all-graphs (memoryOf X) Gs (laid X ok) (few X ok) (room X ok) (some X ok))
       ∙ largest-to (length Gs) (omega arith)
       ∙ ap (largest (λ (G : Rules.Graph). G .offset)) (take-length Gs)

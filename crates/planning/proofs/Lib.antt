@@ -1,4 +1,5 @@
 pub mod PlaceLaws
+pub mod GraphLaws
 pub mod Located
 pub mod Servers
 pub mod Memory

@@ -1,9 +1,9 @@
 -- The plan of a well-formed table at the place of node q of graph g is as the rules' box has it: `node-planned`.
 use mathlib.Core.Path.{_≡_, sym, ap, _∙_}
-use mathlib.Core.Bool.{Bool, true, _&&_}
+use mathlib.Core.Bool.{Bool, true, _&&_, cond}
 use mathlib.Core.List.{List, map}
 use mathlib.Core.Logic.{inl, inr}
-use Prim.Native.Nat.{ℕ, suc, _+_, _-_, _*_, _≤_, _<_, min}
+use Prim.Native.Nat.{ℕ, suc, _+_, _-_, _*_, _^_, _≤_, _<_, min}
 use native.Mathlib.Omega.{arith}
 use lib.Dec.{T, leb, ltb, eqb, ltb→lt}
 use lib.ListN.{length}
@@ -20,7 +20,7 @@ use Rattle.schedule.proofs.Tests.{and-r, T-true, true-T}
 use Rattle.numbers.specs.Masks.{width, bit}
 use Rattle.numbers.proofs.Cases.{by-test}
 use Rattle.table.specs.declared.Table.{Table}
-use Rattle.window.specs.declared.Work.{Work}
+use Rattle.planning.specs.declared.plans.Entry.{Entry}
 use Rattle.window.specs.Entries.{places}
 use Rattle.window.proofs.Members.{each-member}
 use Rattle.window.proofs.Relation.{Planned}
@@ -29,14 +29,14 @@ use Rattle.reading.specs.Memory.{memoryOf}
 use Rattle.scanning.proofs.MaskBits.{Fits, orderly-fits, mask-bit}
 use Rattle.planning.specs.Narrowing.{most16}
 use Rattle.planning.specs.Places.{atPlaces}
-use Rattle.planning.specs.Plans.{planOf}
+use Rattle.planning.specs.Plans.{planTo, planOf}
 use Rattle.planning.proofs.PlaceLaws.{at-places-bit}
 use Rattle.rules.proofs.ReadWellFormed.{nodesIn}
 use Rattle.planning.proofs.Located.{noNode, noGraph, graphAt, nodeAt, firstOf, first-within, all-at, all-numbers, some-at, NodeFormed, node-at}
 use Rattle.schedule.specs.Servers.{serverOf}
 use Rattle.planning.proofs.Servers.{servers-length, server-at, sink-at, predecessor-at}
 use Rattle.planning.proofs.Memory.{LaidOut, laid-out}
-use Rattle.planning.proofs.Entries.{work-at, level-at, period-at, step-at}
+use Rattle.planning.proofs.Entries.{entryHere, plan-entry, period-entry, graph-entry}
 
 module _ (X : Rules.Table) (ok : T (wellFormed X)) where
   abbrev Gs : List Rules.Graph
@@ -129,9 +129,10 @@ module _ (X : Rules.Table) (ok : T (wellFormed X)) where
         (f + r, omega arith, inside g r h k, rw (server g r h k) (true-T (any? (eqb (f + q)) (map (λ (v : ℕ). f + (v - 1)) (y .after))) there))
 
   pub node-planned : (g q : ℕ) → g < length Gs → q < length (graphAt Gs g .nodes) → Planned (boxOf X) (planOf M) (firstOf Gs g + q)
+  unfolding planTo
   node-planned g q h l =
       let e = server g q h l in
-      let w = work-at M Gs laid few room g q h l in
+      let entry = plan-entry M Gs laid few room some g q h l in
       let n = node-ok g q h l in
       let G = graphAt Gs g in
       let x = nodeAt G q in
@@ -140,18 +141,21 @@ module _ (X : Rules.Table) (ok : T (wellFormed X)) where
       let level = within-limits Limits.level (x .level) (n .level) in
       let period = within-limits Limits.period (G .period) (graph-ok g h .period) in
       let same : srv S (f + q) .period ≡ G .period = ap (λ (s : Server). s .period) e in
+      let point : srv S (f + q) .point ≡ G .period = ap (λ (s : Server). s .point) e in
       let high : srv S (f + q) .level ≡ x .level = ap (λ (s : Server). s .level) e in
       let long : srv S (f + q) .budget ≡ x .budget = ap (λ (s : Server). s .budget) e in
-      let narrow : min (G .period) most16 ≡ srv S (f + q) .period = omega arith in
+      let narrow : min (G .period) most16 ≡ G .period = omega arith in
       record {
-        budget = ap (λ (w : Work). w .budget) w ∙ omega arith;
-        sink = ap (λ (w : Work). w .sink) w ∙ sym (is-sink g q h l);
+        budget = entry (λ (w : Entry). w .budget) ∙ omega arith;
+        room = entry (λ (w : Entry). w .room) ∙ sym (ap (λ (b : Bool). cond b Limits.unfinished (2 ^ 8 - 1)) (is-sink g q h l));
         after = λ p k.
-            ap (λ (w : Work). bit (w .after) p) w ∙ predecessors g q h l p k ∙ sym (ap (λ (s : Server). any? (eqb p) (s .predecessors)) e);
-        level = level-at M Gs laid few room g q h l ∙ omega arith;
-        period = period-at M Gs laid few room g q h l ∙ narrow;
-        step = step-at M Gs laid few room g q h l ∙ ap (λ (p : ℕ). p * places) narrow;
-        point = ap (λ (s : Server). s .point) e ∙ sym same;
+            ap (λ (m : ℕ). bit m p) (entry (λ (w : Entry). w .after)) ∙ predecessors g q h l p k
+            ∙ sym (ap (λ (s : Server). any? (eqb p) (s .predecessors)) e);
+        level = entry (λ (w : Entry). w .level) ∙ omega arith;
+        period = period-entry M Gs laid few room some g q h l ∙ sym same;
+        step = entry (λ (w : Entry). w .step) ∙ rw (narrow, same);
+        lead = entry (λ (w : Entry). w .lead) ∙ rw (narrow, point);
+        point-most = omega arith;
         budget-some = omega arith;
         level-some = omega arith;
         level-most = omega arith;
@@ -162,8 +166,8 @@ module _ (X : Rules.Table) (ok : T (wellFormed X)) where
             by-test (eqb (q + 1) (length (G .nodes)))
             (λ t. inl (true-T (any? (eqb (f + q)) (boxOf X .sinks)) (is-sink g q h l ∙ t)))
             (λ t. let ne = eqb-false (q + 1) (length (G .nodes)) t in inr (leads-on g q h (below-last ne l)));
-        graph = ap (λ (w : Work). w .graph) w ∙ sym (ap (λ (s : Server). s .graph) e ∙ omega arith);
-        node = ap (λ (w : Work). w .node) w ∙ sym (ap (λ (s : Server). s .node) e ∙ omega arith);
+        graph = graph-entry M Gs laid few room some g q h l ∙ sym (ap (λ (s : Server). s .graph) e ∙ omega arith);
+        node = entry (λ (w : Entry). w .node) ∙ sym (ap (λ (s : Server). s .node) e ∙ omega arith);
       }
     where
       below-last : {q n : ℕ} → (q + 1 ≡ n → ⊥) → q < n → q + 1 < n

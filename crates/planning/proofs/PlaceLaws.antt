@@ -1,21 +1,17 @@
--- The laws of what stands by place: the bits of a mask that is made of a test; a mask is its bits, and moves bit by bit to its places; and the
--- entries of a list of which some from one on are replaced.
+-- The laws of masks by place: the bits of a mask that is made of a test; a mask is its bits, and moves bit by bit to its places.
 use mathlib.Core.Path.{_≡_, refl, sym, ap, _∙_}
 use mathlib.Core.Bool.{Bool, true, false, _&&_, _||_, not, cond, or-false, or-true, false≢true}
-use mathlib.Core.List.{List}
 use Prim.Native.Nat.{ℕ, zero, suc, _+_, _-_, _/_, _%_, _^_, _<_, _≤_}
 use native.Mathlib.Nat.{mod-lt, zero-lt-suc, mod-eq-of-lt, mod-one}
 use native.Mathlib.Omega.{arith}
 use lib.Bits.{or-lt, xor-lt}
 use lib.Dec.{leb, ltb, eqb}
-use lib.ListN.{length, getD, set, length-set}
 use lib.Pow.{pow-lt, pow-pos, mod-pow-add}
-use lib.Seq.{getD-set-same, getD-set-other}
 use borrow.Author.Tests.{eq-eqb, ne-eqb, ltb-true, ltb-false, eqb-true, eqb-false, leb-true, lt-ltb, le-ltb, le-leb, lt-leb}
 use Rattle.numbers.specs.Masks.{width, bit, with, without}
 use Rattle.numbers.proofs.Cases.{by-test, by-digit}
 use Rattle.numbers.proofs.MaskLaws.{no-bit, bit-below, bit-with, bit-without}
-use Rattle.planning.specs.Places.{maskBelow, atPlaces, replacedFrom}
+use Rattle.planning.specs.Places.{maskBelow, atPlaces}
 
 -- a mask keeps within its width as a bit is set
 pub with-fits : (m k : ℕ) → m < 2 ^ width → with m k < 2 ^ width
@@ -129,27 +125,3 @@ module _ (mask first : ℕ) where
     where
       none : (p : ℕ) → placedBit 0 first p ≡ false
       none p = rw (no-bit (p - first)) (by-test (leb first p) (λ t. rw t) (λ t. rw t))
-
-module _ {A : Type 0} (l : List A) (first : ℕ) (f : ℕ → A) where
-  pub replaced-length : (n : ℕ) → length (replacedFrom l first f n) ≡ length l
-  unfolding replacedFrom
-  replaced-length zero = refl
-  replaced-length (suc n) = length-set (replacedFrom l first f n) (first + n) (f n) ∙ replaced-length n
-
-  pub replaced-other : (n i : ℕ) (d : A) → i < first → getD (replacedFrom l first f n) i d ≡ getD l i d
-  unfolding replacedFrom
-  replaced-other zero i d h = refl
-  replaced-other (suc n) i d h = getD-set-other (replacedFrom l first f n) (first + n) i (f n) d (λ e. omega arith) ∙ replaced-other n i d h
-
-  pub replaced-at : (n k : ℕ) (d : A) → k < n → first + n ≤ length l → getD (replacedFrom l first f n) (first + k) d ≡ f k
-  unfolding replacedFrom
-  replaced-at zero k d h r = absurd (omega arith)
-  replaced-at (suc n) k d h r =
-      by-test (eqb k n)
-      (λ t. let e = eqb-true k n t in
-      rw e (getD-set-same (replacedFrom l first f n) (first + n) (f n) d (omega (arith, replaced-length n))))
-      (λ t. earlier (eqb-false k n t) (replaced-at n k d))
-    where
-      earlier : (k ≡ n → ⊥) → (k < n → first + n ≤ length l → getD (replacedFrom l first f n) (first + k) d ≡ f k)
-          → getD (set (replacedFrom l first f n) (first + n) (f n)) (first + k) d ≡ f k
-      earlier e ih = getD-set-other (replacedFrom l first f n) (first + n) (first + k) (f n) d (λ (g : first + k ≡ first + n). e (omega arith)) ∙ ih (omega arith) (omega arith)

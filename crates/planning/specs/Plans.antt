@@ -1,65 +1,77 @@
 -- The plan of a table in memory. For the proof, not for belief.
-use mathlib.Core.Bool.{Bool, cond}
+use mathlib.Core.Bool.{cond}
 use mathlib.Core.List.{List}
-use Prim.Native.Nat.{ℕ, zero, suc, _+_, _*_, min}
-use lib.Dec.{leb, eqb}
+use Prim.Native.Nat.{ℕ, _+_, _*_, _-_, min}
 use lib.ListN.{getD, replicate}
 use Rattle.schedule.specs.Limits as Limits
 use Rattle.table.specs.declared.Table.{Table}
 use Rattle.table.specs.declared.Graph.{Graph}
 use Rattle.table.specs.declared.Node.{Node}
-use Rattle.table.specs.Fresh.{noGraph, noNode}
-use Rattle.window.specs.declared.Work.{Work}
+use Rattle.table.specs.Fresh.{noNode}
 use Rattle.window.specs.declared.Plan.{Plan}
-use Rattle.window.specs.Entries.{places, noWork}
+use Rattle.window.specs.Entries.{places}
+use Rattle.window.specs.Loops.{replaced}
+use Rattle.planning.specs.declared.plans.Entry.{Entry}
 use Rattle.planning.specs.Narrowing.{most16, most8}
-use Rattle.planning.specs.Places.{atPlaces, replacedFrom}
+use Rattle.planning.specs.Places.{atPlaces}
+use Rattle.planning.specs.Graphs.{firstFor, numberIn, lastAt, graphTo, graphAt, placesOf}
 
-abbrev pub workOf : Node → ℕ → Bool → ℕ → ℕ → Work
-workOf x first sink graph number =
-    record { budget = min (x .budget) most16; sink = sink; after = atPlaces (x .after) first; graph = graph; node = number }
+abbrev pub stepOf : Graph → ℕ
+stepOf y = min (y .period) most16 * places
 
--- node k, from 0, of the graph whose node 1 stands at `first`
-abbrev pub nodeAt : List Node → ℕ → ℕ → Node
-nodeAt node first k = getD node (first + k) noNode
-
--- the first n nodes of graph number `number` at their places
-unfoldable pub withNodes : Plan → List Node → ℕ → ℕ → ℕ → ℕ → ℕ → Plan
-withNodes plan node first nodes period number n =
+-- what the plan has at place i, for node x of graph y
+abbrev pub entryOf : Node → Graph → ℕ → Entry
+entryOf x y i =
     record {
-      processors = plan .processors;
-      nodes = plan .nodes;
-      work =
-          replacedFrom (plan .work) first (λ (k : ℕ). workOf (nodeAt node first k) first (eqb (k + 1) nodes) number (k + 1)) n;
-      level = replacedFrom (plan .level) first (λ (k : ℕ). min ((nodeAt node first k) .level) most8) n;
-      period = replacedFrom (plan .period) first (λ (k : ℕ). period) n;
-      step = replacedFrom (plan .step) first (λ (k : ℕ). period * places) n;
+      budget = min (x .budget) most16;
+      after = atPlaces (x .after) (firstFor y i);
+      level = min (x .level) most8;
+      step = stepOf y;
+      lead = stepOf y + i;
+      room = cond (lastAt y i) Limits.unfinished most8;
+      node = numberIn y i;
     }
-
--- and all of them, if there is room
-abbrev pub withGraph : Plan → List Node → Graph → ℕ → Plan
-withGraph plan node g number =
-    cond (leb (g .first + g .nodes) places) (withNodes plan node (g .first) (g .nodes) (min (g .period) most16) number (g .nodes)) plan
 
 abbrev pub noPlan : ℕ → ℕ → Plan
 noPlan processors nodes =
     record {
       processors = processors;
       nodes = nodes;
-      work = replicate places noWork;
+      budget = replicate places 0;
+      after = replicate places 0;
       level = replicate places 0;
       period = replicate places 0;
       step = replicate places 0;
+      lead = replicate places 0;
+      room = replicate places 0;
+      graph = replicate places 0;
+      node = replicate places 0;
     }
 
--- how many graphs of a table count
-abbrev pub graphsOf : Table → ℕ
-graphsOf t = min (t .graphs) (Limits.graphs .to)
+module _ (t : Table) where
+  abbrev pub entryAt : ℕ → Entry
+  entryAt i = entryOf (getD (t .node) i noNode) (graphAt t i) i
 
--- the first n graphs
-unfoldable pub planTo : Table → ℕ → Plan
-planTo t zero = noPlan (t .processors) (t .nodes)
-planTo t (suc n) = withGraph (planTo t n) (t .node) (getD (t .graph) n noGraph) (n + 1)
+  -- a number at each of the first n places
+  abbrev pub byPlace : (ℕ → ℕ) → ℕ → List ℕ
+  byPlace f n = replaced f (replicate places 0) n
 
-abbrev pub planOf : Table → Plan
-planOf t = planTo t (graphsOf t)
+  -- the first n nodes at their places
+  unfoldable pub planTo : ℕ → Plan
+  planTo n =
+      record {
+        processors = t .processors;
+        nodes = t .nodes;
+        budget = byPlace (λ (i : ℕ). entryAt i .budget) n;
+        after = byPlace (λ (i : ℕ). entryAt i .after) n;
+        level = byPlace (λ (i : ℕ). entryAt i .level) n;
+        period = byPlace (λ (i : ℕ). graphAt t i .period) n;
+        step = byPlace (λ (i : ℕ). entryAt i .step) n;
+        lead = byPlace (λ (i : ℕ). entryAt i .lead) n;
+        room = byPlace (λ (i : ℕ). entryAt i .room) n;
+        graph = byPlace (λ (i : ℕ). graphTo t i + 1) n;
+        node = byPlace (λ (i : ℕ). entryAt i .node) n;
+      }
+
+  abbrev pub planOf : Plan
+  planOf = planTo (placesOf t)

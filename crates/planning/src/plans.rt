@@ -1,87 +1,93 @@
-// The plan of a table's ticks.
+// The plan of a table, made in place in one loop: no copy of a plan for each graph.
+use crate::graphs::next_graph;
+use crate::graphs::number_in;
 use crate::narrowing::narrow8;
 use crate::narrowing::narrow16;
-use crate::narrowing::smaller;
 use crate::places::at_places;
 use table::Graph;
 use table::Node;
 use table::Table;
 use window::Plan;
-use window::Work;
 ghost use mathlib.Core.Path.{_≡_};
+ghost use Prim.Native.Nat.{_<_};
+ghost use Rattle.window.specs.Entries.{places};
 ghost use Rattle.planning.specs.Plans as Mirror;
 
-pub fn work_of(x: Node, first: u32, sink: bool, graph: u8, number: u8) -> Work
-    ensures { λ r. ⌜ r ≡ Mirror.workOf x first sink graph number ⌝ }
-{
-    Work {
-        budget: narrow16(x.budget),
-        sink,
-        after: at_places(x.after, first),
-        graph,
-        node: number,
-    }
+// What the plan has at a place.
+pub struct Entry {
+    pub budget: u16,
+    pub after: u32,
+    pub level: u8,
+    pub step: u32,
+    pub lead: u32,
+    pub room: u8,
+    pub node: u8,
 }
 
-// The nodes of graph number `number` put at their places.
-pub fn with_graph(plan: Plan, node: [Node; Table::SERVERS], g: Graph, number: u8) -> Plan
-    ensures { λ r. ⌜ r ≡ Mirror.withGraph plan node g number ⌝ }
+// Node x of graph y at place i. A sink may have UNFINISHED unfinished jobs, another node as many as a number has room for.
+pub fn entry_of(x: Node, y: Graph, i: usize) -> Entry
+    requires { ⌜ i < places ⌝ }
+    ensures { λ r. ⌜ r ≡ Mirror.entryOf x y i ⌝ }
 {
-    let first = g.first;
-    let nodes = g.nodes;
-    if Table::SERVERS < nodes {
-        return plan;
+    let number = number_in(y, i);
+    let step = narrow16(y.period) as u32 * Table::ALL_NODES_TO;
+    let room = if number == y.nodes {
+        Table::UNFINISHED as u8
+    } else {
+        u8::MAX
+    };
+    Entry {
+        budget: narrow16(x.budget),
+        after: at_places(x.after, (i + 1 - number) as u32),
+        level: narrow8(x.level),
+        step,
+        lead: step + i as u32,
+        room,
+        node: number as u8,
     }
-    if Table::SERVERS - nodes < first {
-        return plan;
-    }
-    let mut p = plan;
-    let period = narrow16(g.period);
-    let mut k: usize = 0;
-    while k < nodes {
-        let i = first + k;
-        let x = node[i];
-        p.work[i] = work_of(x, first as u32, k + 1 == nodes, number, (k + 1) as u8);
-        p.level[i] = narrow8(x.level);
-        p.period[i] = period;
-        p.step[i] = period as u32 * Table::ALL_NODES_TO;
-        k += 1;
-    }
-    p
 }
 
 // A plan of these processors and this many nodes, with no node at its place yet.
 pub fn no_plan(processors: u32, nodes: usize) -> Plan
     ensures { λ r. ⌜ r ≡ Mirror.noPlan processors nodes ⌝ }
 {
-    let w = Work {
-        budget: 0,
-        sink: false,
-        after: 0,
-        graph: 0,
-        node: 0,
-    };
     Plan {
         processors: processors as usize,
         nodes,
-        work: [w; Table::SERVERS],
+        budget: [0u16; Table::SERVERS],
+        after: [0u32; Table::SERVERS],
         level: [0u8; Table::SERVERS],
-        period: [0u16; Table::SERVERS],
+        period: [0u32; Table::SERVERS],
         step: [0u32; Table::SERVERS],
+        lead: [0u32; Table::SERVERS],
+        room: [0u8; Table::SERVERS],
+        graph: [0u8; Table::SERVERS],
+        node: [0u8; Table::SERVERS],
     }
 }
 
+// Each node at its place.
 pub fn plan_of(table: Table) -> Plan
     ensures { λ r. ⌜ r ≡ Mirror.planOf table ⌝ }
 {
-    let node = table.node;
-    let graphs = smaller(table.graphs, Table::GRAPHS);
+    let n = numbers::smaller(table.nodes, Table::SERVERS);
     let mut p = no_plan(table.processors, table.nodes);
     let mut g: usize = 0;
-    while g < graphs {
-        let x = table.graph[g];
-        p = with_graph(p, node, x, (g + 1) as u8);
-        g += 1;
+    let mut i: usize = 0;
+    while i < n {
+        let y = table.graph[g];
+        let e = entry_of(table.node[i], y, i);
+        p.budget[i] = e.budget;
+        p.after[i] = e.after;
+        p.level[i] = e.level;
+        p.period[i] = y.period;
+        p.step[i] = e.step;
+        p.lead[i] = e.lead;
+        p.room[i] = e.room;
+        p.graph[i] = (g + 1) as u8;
+        p.node[i] = e.node;
+        g = next_graph(y, i, g);
+        i += 1;
     }
     p
 }

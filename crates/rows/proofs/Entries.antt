@@ -1,68 +1,65 @@
--- The entries of a row as it is filled, one key after the other: there is room for each, and each but the largest key adds its line.
+-- The entries of a row as it is filled: there is room for each, and each adds its line.
 use mathlib.Core.Path.{_≡_, refl, sym, _∙_}
-use mathlib.Core.Bool.{cond}
-use mathlib.Core.List.{List, [], _∷_, _++_, append-nil, map-append}
-use Prim.Native.Nat.{ℕ, zero, suc, _+_, _≤_, _<_}
+use mathlib.Core.List.{List, [], _∷_, _++_, map, map-append}
+use Prim.Native.Nat.{ℕ, zero, suc, _+_, _≤_, _<_, min}
+use native.Mathlib.Nat.{zero-add}
 use native.Mathlib.Numerals.{add-one}
 use native.Mathlib.Omega.{arith}
-use lib.Dec.{ltb}
-use lib.ListN.{length, getD, set, take, length-set}
+use lib.ListN.{length, getD, set, take}
 use lib.Seq.{take-suc-set}
 use Rattle.schedule.specs.Limits as Limits
+use Rattle.schedule.specs.Lists.{joined}
 use Rattle.schedule.specs.Walk.{Running}
-use Rattle.schedule.proofs.Tests.{either-way, dec}
-use Rattle.table.specs.declared.State.{State}
+use Rattle.table.specs.declared.Seen.{Seen}
 use Rattle.window.specs.declared.Plan.{Plan}
-use Rattle.window.specs.Entries.{lastKey}
-use Rattle.window.specs.Ticking.{running}
+use Rattle.window.specs.Entries.{places}
+use Rattle.window.specs.Loops.{replaced}
+use Rattle.window.specs.Choosing.{picks, Picked, noRun, noAt}
+use Rattle.window.proofs.Loops.{replaced-length}
+use Rattle.window.proofs.Fewer.{picks-few}
 use Rattle.writing.specs.declared.row.Run.{Run}
 use Rattle.writing.specs.declared.row.Row.{Row}
 use Rattle.writing.specs.Row.{runningOf, runningIn}
-use Rattle.rows.specs.Showing.{runOf, withRun, rowTo, rowOf}
+use Rattle.rows.specs.Showing.{blank, picksOf, runOf, entryOf, rowTo, rowOf}
+use Rattle.rows.proofs.Lists.{joined-last}
 
--- an entry more at the end
-entry-more : (row : Row) (x : Run) → row .count < length (row .run)
-    → runningIn (record { run = set (row .run) (row .count) x; count = row .count + 1 }) ≡ runningIn row ++ (runningOf x ∷ [])
-entry-more row x h =
-    rw (add-one (row .count), take-suc-set (row .run) (row .count) x h) (map-append runningOf (take (row .count) (row .run)) (x ∷ []))
+-- the lines of the first n entries
+lines-of : (f : ℕ → Run) (xs : List Run) (n : ℕ) → n ≤ length xs
+    → map runningOf (take n (replaced f xs n)) ≡ joined (λ (r : ℕ). runningOf (f r) ∷ []) 0 n
+unfolding replaced
+lines-of f xs zero h = refl
+lines-of f xs (suc n) h =
+    rw (take-suc-set (replaced f xs n) n (f n) (omega (arith, replaced-length f xs n)))
+    (map-append runningOf (take n (replaced f xs n)) (f n ∷ [])
+    ∙ rw (lines-of f xs n (omega arith))
+    (sym (joined-last (λ (r : ℕ). runningOf (f r) ∷ []) 0 n ∙ rw (zero-add n))))
 
--- a key's line, none for the largest key
-abbrev pub lineFor : ℕ → Run → List Running
-lineFor key x = cond (ltb key lastKey) (runningOf x ∷ []) []
+module _ (plan : Plan) (offsets : List ℕ) (st : Seen) (few : plan .processors ≤ Limits.processors .to) where
+  pub count-few : picksOf plan offsets st .count ≤ Limits.processors .to
+  count-few = omega (arith, picks-few (st .first) (st .count) plan)
 
-pub line-more : (row : Row) (key : ℕ) (x : Run) → row .count < length (row .run) → runningIn (withRun row key x) ≡ runningIn row ++ lineFor key x
-line-more row key x h =
-    either-way (dec (ltb key lastKey)) (λ z. rw z (entry-more row x h)) (λ z. rw z (sym (append-nil (runningIn row))))
+  -- what the choice gave the code
+  pub chosen-row : {n m : ℕ} {run at : List ℕ} → n ≡ min (plan .nodes) places
+      → Picked (picks (st .first) (st .count) (plan .level) (plan .step) n noRun noAt (plan .processors)) m run at
+      → Picked (picksOf plan offsets st) m run at
+  chosen-row e h = rw e at h
 
--- no more entries than keys gone through, and room for as many as there can be processors
-pub record Roomy (n : ℕ) (row : Row) : Type 0 where
-  pub few : row .count ≤ n
-  pub long : length (row .run) ≡ Limits.processors .to
-
-roomy-more : (n : ℕ) (row : Row) (key : ℕ) (x : Run) → Roomy n row → Roomy (suc n) (withRun row key x)
-roomy-more n row key x h =
-    either-way (dec (ltb key lastKey))
-    (λ z. rw z (record { few = omega (arith, h .few); long = length-set (row .run) (row .count) x ∙ h .long }))
-    (λ z. rw z (record { few = omega (arith, h .few); long = h .long }))
-
-module _ (plan : Plan) (offsets : List ℕ) (st : State) where
-  abbrev entry : ℕ → ℕ
-  entry n = getD (running plan st) n 0
-
-  pub roomy : (n : ℕ) → Roomy n (rowTo plan offsets st n)
-  unfolding rowTo
-  roomy zero = record { few = omega arith; long = refl }
-  roomy (suc n) = roomy-more n (rowTo plan offsets st n) (entry n) (runOf plan offsets st (entry n)) (roomy n)
+  pub entry-is : (r : ℕ) {m : ℕ} {run at : List ℕ} {x : Run} → Picked (picksOf plan offsets st) m run at
+      → x ≡ runOf plan offsets st (getD run r 0) (getD at r 0) → x ≡ entryOf plan offsets st r
+  entry-is r h e = e ∙ rw (h .1 .0, h .1 .1)
 
   -- one turn of the loop
-  pub few-so-far : (n : ℕ) {row : Row} → row ≡ rowTo plan offsets st n → row .count ≤ n
-  few-so-far n e = rw e (roomy n .few)
-
-  pub row-more : (n : ℕ) {row more : Row} {key : ℕ} {x : Run} → row ≡ rowTo plan offsets st n → key ≡ entry n → x ≡ runOf plan offsets st key
-      → more ≡ withRun row key x → more ≡ rowTo plan offsets st (n + 1)
-  unfolding rowTo
-  row-more n e k w m = m ∙ rw (add-one n, e, w, k)
+  pub row-more : (r : ℕ) {row : Row} {x : Run} → row ≡ rowTo plan offsets st r → x ≡ entryOf plan offsets st r
+      → _≡_ {A = Row} (record { run = set (row .run) r x; count = row .count }) (rowTo plan offsets st (r + 1))
+  unfolding rowTo replaced
+  row-more r e f = rw (add-one r, e, f)
 
   -- the text of a row is written from no more entries than there can be processors
-  pub row-few : plan .processors ≤ Limits.processors .to → rowOf plan offsets st .count ≤ Limits.processors .to
-  row-few h = omega (arith, roomy (plan .processors) .few)
+  pub row-few : rowOf plan offsets st .count ≤ Limits.processors .to
+  unfolding rowTo
+  row-few = count-few
+
+  pub row-lines : runningIn (rowOf plan offsets st)
+      ≡ joined (λ (r : ℕ). runningOf (entryOf plan offsets st r) ∷ []) 0 (picksOf plan offsets st .count)
+  unfolding rowTo
+  row-lines = lines-of (entryOf plan offsets st) (blank (picksOf plan offsets st .count) .run) (picksOf plan offsets st .count) count-few

@@ -2,51 +2,56 @@
 -- believes is the rules' row.
 use mathlib.Core.Bool.{cond}
 use mathlib.Core.List.{List}
-use Prim.Native.Nat.{ℕ, zero, suc, _+_, _-_, _/_, _%_}
-use lib.Dec.{ltb}
-use lib.ListN.{getD, set, replicate}
+use Prim.Native.Nat.{ℕ, _+_, _-_, _/_, _%_}
+use lib.ListN.{getD, replicate}
 use Rattle.schedule.specs.Limits as Limits
 use Rattle.table.specs.declared.Pending.{Pending}
-use Rattle.table.specs.declared.State.{State}
+use Rattle.table.specs.declared.Seen.{Seen}
 use Rattle.window.specs.declared.Plan.{Plan}
-use Rattle.window.specs.Entries.{places, lastKey, slotOf, serverAt, firstAt, workAt, periodAt, stepAt}
-use Rattle.window.specs.Ticking.{running}
+use Rattle.window.specs.Entries.{places, window, noServer, slotOf, periodAt, leadAt}
+use Rattle.window.specs.Loops.{replaced}
+use Rattle.window.specs.Choosing.{Picks, placeOf, chosenBy}
 use Rattle.writing.specs.declared.row.Run.{Run}
 use Rattle.writing.specs.declared.row.Row.{Row}
+
+-- the number of a server job: its release is (key - lead) / places
+abbrev pub numberOf : (key lead offset period : ℕ) → ℕ
+numberOf key lead offset period = ((key - lead) / places - offset) / period + 1
 
 -- the number of the job that is linked to server job `number`, 0 for none
 abbrev pub invocationOf : Pending → ℕ → ℕ
 invocationOf p number = cond (p .linked) (number - p .behind) 0
 
--- an entry more, but none for the largest key
-abbrev pub withRun : Row → ℕ → Run → Row
-withRun row key x = cond (ltb key lastKey) (record { run = set (row .run) (row .count) x; count = row .count + 1 }) row
+abbrev pub blank : ℕ → Row
+blank count =
+    record { run = replicate (Limits.processors .to) (record { graph = 0; node = 0; «server_job» = 0; invocation = 0 }); count = count }
 
-abbrev pub placeOf : ℕ → ℕ
-placeOf key = key % places
+module _ (plan : Plan) (offsets : List ℕ) (st : Seen) where
+  -- what a key says: the place, and the number of the server job
+  abbrev pub numberBy : ℕ → ℕ
+  numberBy key = numberOf key (leadAt plan (placeOf key)) (getD offsets (placeOf key) 0) (periodAt plan (placeOf key))
 
--- what a key says: the place, the number of the server job, its slot in the window, and so its entry
-module _ (plan : Plan) (offsets : List ℕ) (st : State) where
-  abbrev pub numberOf : ℕ → ℕ
-  numberOf key = (key / places - getD offsets (placeOf key) 0) / periodAt plan (placeOf key)
+  abbrev pub pendingBy : ℕ → ℕ → Pending
+  pendingBy key at = slotOf (getD (st .servers) (placeOf key) noServer) (at % window)
 
-  abbrev pub slotNumber : ℕ → ℕ
-  slotNumber key = (key - firstAt st (placeOf key)) / stepAt plan (placeOf key)
-
-  unfoldable pub runOf : ℕ → Run
-  runOf key =
+  unfoldable pub runOf : ℕ → ℕ → Run
+  runOf key at =
       record {
-        graph = (workAt plan (placeOf key)) .graph;
-        node = (workAt plan (placeOf key)) .node;
-        «server_job» = numberOf key;
-        invocation = invocationOf (slotOf (serverAt st (placeOf key)) (slotNumber key)) (numberOf key);
+        graph = getD (plan .graph) (placeOf key) 0;
+        node = getD (plan .node) (placeOf key) 0;
+        «server_job» = numberBy key;
+        invocation = invocationOf (pendingBy key at) (numberBy key);
       }
 
-  -- of the first n keys that run
+  abbrev pub picksOf : Picks
+  picksOf = chosenBy plan (st .first) (st .count)
+
+  -- entry r, and the row of the first n of them
+  abbrev pub entryOf : ℕ → Run
+  entryOf r = runOf (getD (picksOf .run) r 0) (getD (picksOf .at) r 0)
+
   unfoldable pub rowTo : ℕ → Row
-  rowTo zero =
-      record { run = replicate (Limits.processors .to) (record { graph = 0; node = 0; «server_job» = 0; invocation = 0 }); count = 0 }
-  rowTo (suc n) = let key : ℕ = getD (running plan st) n 0 in withRun (rowTo n) key (runOf key)
+  rowTo n = let b : Row = blank (picksOf .count) in record { run = replaced entryOf (b .run) n; count = b .count }
 
   abbrev pub rowOf : Row
-  rowOf = rowTo (plan .processors)
+  rowOf = rowTo (picksOf .count)

@@ -1,13 +1,11 @@
-// A running server job from its key: the key says its place and its deadline, and so its number and its slot in the window.
+// A running server job from its key, which says its place and its release, and so its number; and from its slot in the window.
 use table::Pending;
-use table::Server;
-use table::State;
+use table::Seen;
 use table::Table;
 use window::Plan;
 use writing::Run;
 ghost use mathlib.Core.Path.{_≡_};
 ghost use Prim.Native.Nat.{_-_, _/_};
-ghost use Rattle.window.specs.Entries.{slotOf};
 ghost use Rattle.rows.specs.Showing as Mirror;
 
 // How many whole steps lie between `from` and `to`; 0 where `to` comes first, and where a step is 0.
@@ -23,18 +21,12 @@ pub fn steps_between(from: u32, to: u32, step: u32) -> u32
     (to - from) / step
 }
 
-// The server job in a slot; past the window there is none, and so none that is linked.
-pub fn job_in(s: Server, slot: u32) -> Pending
-    ensures { λ r. ⌜ r ≡ slotOf s slot ⌝ }
+// The number of the server job with a key: as many as whole periods lie between the offset and its release, and one.
+pub fn number_of(key: u32, lead: u32, offset: u32, period: u32) -> u32
+    ensures { λ r. ⌜ r ≡ Mirror.numberOf key lead offset period ⌝ }
 {
-    if slot < Table::PENDING {
-        let d = slot as usize;
-        return s.jobs[d];
-    }
-    Pending {
-        behind: 0,
-        linked: false,
-    }
+    let release = steps_between(lead, key, Table::ALL_NODES_TO);
+    steps_between(offset, release, period) + 1
 }
 
 // The number of the job that is linked to server job `number`; 0 for none.
@@ -46,19 +38,20 @@ pub fn invocation_of(p: Pending, number: u32) -> u32
     if p.linked { job } else { 0 }
 }
 
-pub fn run_of(plan: Plan, offsets: [u16; Table::SERVERS], st: State, key: u32) -> Run
-    ensures { λ r. ⌜ r ≡ Mirror.runOf plan offsets st key ⌝ }
+// `at` is where the budget left of its slot stands.
+pub fn run_of(plan: Plan, offsets: [u32; Table::SERVERS], st: Seen, key: u32, at: u16) -> Run
+    ensures { λ r. ⌜ r ≡ Mirror.runOf plan offsets st key at ⌝ }
 {
-    let deadline = key / Table::ALL_NODES_TO;
     let place = (key % Table::ALL_NODES_TO) as usize;
-    let w = plan.work[place];
-    let number = steps_between(offsets[place] as u32, deadline, plan.period[place] as u32);
-    let slot = steps_between(st.first[place], key, plan.step[place]);
+    let graph = plan.graph[place] as u32;
+    let node = plan.node[place] as u32;
+    let slot = at as usize % Table::WINDOW;
+    let number = number_of(key, plan.lead[place], offsets[place], plan.period[place]);
     let s = st.servers[place];
-    let invocation = invocation_of(job_in(s, slot), number);
+    let invocation = invocation_of(s.jobs[slot], number);
     Run {
-        graph: w.graph as u32,
-        node: w.node as u32,
+        graph,
+        node,
         server_job: number,
         invocation,
     }

@@ -52,12 +52,12 @@ module _ (bytes : List ℕ) (U : Table) (e : admissionOf bytes ≡ admitted U) w
       (λ b. absurd (let x : ⊥ = omega (arith, b .0, stops-in-time (boxOf U) (whole (boxOf U .servers)), last-boundary U ok short) in x))
 
   pub report-same : reportOn (stopOf (walkOfTable (a U ok short) never .how)) (walkOfTable (a U ok short) never .ticks)
-      (take (M U ok short .graphs) (figuresOf (M U ok short) (walkOfTable (a U ok short) never .state)))
+      (take (M U ok short .graphs) (figuresOf (M U ok short) (walkOfTable (a U ok short) never .state .worst)))
       ≡ reportOf bytes
   unfolding reportOf walked
   report-same =
       let s = at-stop in
-      rw (s .how, s .ticks, stop-of (stop (boxOf U) .how), figures-are U ok short (stop (boxOf U) .ticks) (walkOfTable (a U ok short) never .state) (s .in-step), e)
+      rw (s .how, s .ticks, s .shows, stop-of (stop (boxOf U) .how), figures-are U ok short (stop (boxOf U) .ticks) (s .state) (s .in-step), e)
 
 module _ (bytes : List ℕ) (r : Admitted) (p : Passes bytes r) where
   pub passed-walkable : Walkable r
@@ -68,7 +68,7 @@ module _ (bytes : List ℕ) (r : Admitted) (p : Passes bytes r) where
 
   -- of a table that passed, by the walk of what was read
   pub passed-report : (w : Walk) → w ≡ walkOfTable r never
-      → reportOn (stopOf (w .how)) (w .ticks) (take (r .table .graphs) (figuresOf (r .table) (w .state))) ≡ reportOf bytes
+      → reportOn (stopOf (w .how)) (w .ticks) (take (r .table .graphs) (figuresOf (r .table) (w .state .worst))) ≡ reportOf bytes
   passed-report w e =
       let q : w ≡ walkOfTable (codedAdmission (admitted (p .table))) never = e ∙ ap (λ (x : Admitted). walkOfTable x never) (p .is) in
       rw (q, p .is) (report-same bytes (p .table) (p .is-admitted))

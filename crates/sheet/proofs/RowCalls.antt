@@ -72,8 +72,8 @@ module _ (bytes : List ℕ) (U : Table) (e : admissionOf bytes ≡ admitted U) (
       let in-time = stops-in-time (boxOf U) (whole (boxOf U .servers)) in
       let last = last-boundary U fine brief in
       let same : asked ≡ instant = omega arith in
-      let shown = row-shown (boxOf U) (planOf (M U fine brief)) (offsetsOf (M U fine brief)) (w .state) (plan-fits U fine) (offsets-fit U fine) asked (b .released) (omega arith) in
-      rw (b .how, rules-row, lt-ltb instant (stop (boxOf U) .ticks) (omega arith), shown, same)
+      let shown = row-shown (boxOf U) (planOf (M U fine brief)) (offsetsOf (M U fine brief)) (b .state) (plan-fits U fine) (offsets-fit U fine) asked (b .released) (omega arith) in
+      rw (b .how, b .shows, rules-row, lt-ltb instant (stop (boxOf U) .ticks) (omega arith), shown, same)
 
   pub row-same : rowReply (M U fine brief) w ≡ Rules.rowOf bytes instant
   row-same = either-way (table-walked U fine brief asked) (λ s. past (s .0) (s .1)) (λ b. there (b .0) (b .1))

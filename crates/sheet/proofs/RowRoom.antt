@@ -21,10 +21,9 @@ use Rattle.walking.proofs.Walked.{stop}
 use Rattle.writing.specs.Lengths.{longestRow}
 use Rattle.writing.specs.Row.{runningOf}
 use Rattle.rows.specs.Showing as Showing
-use Rattle.rows.proofs.Entries.{roomy}
-use Rattle.rows.proofs.Shown.{row-shown}
-use Rattle.sheet.specs.Walks.{walkOfTable}
-use Rattle.sheet.proofs.TableWalks.{M, a, table-walked}
+use Rattle.rows.proofs.Entries.{row-few}
+use Rattle.rows.proofs.Shown.{seenOf, row-shown}
+use Rattle.sheet.proofs.TableWalks.{M, table-walked}
 use Rattle.sheet.proofs.Reports.{ok, short}
 use Rattle.sheet.proofs.RowCalls.{rules-row, refused-row}
 use Rattle.sheet.proofs.TextLengths.{row-short}
@@ -45,17 +44,17 @@ module _ (bytes : List ℕ) (U : Table) (e : admissionOf bytes ≡ admitted U) (
         let brief = short bytes U e in
         let plan = planOf (M U fine brief) in
         let offsets = offsetsOf (M U fine brief) in
-        let st = walkOfTable (a U fine brief) t .state in
-        let shown = Showing.rowOf plan offsets st in
         either-way (table-walked U fine brief t) (λ s. absurd (let x : ⊥ = omega (arith, s .0) in x))
         (λ b.
+        let st = b .1 .state in
+        let shown = Showing.rowOf plan offsets (seenOf st) in
         let same = row-shown X plan offsets st (plan-fits U fine) (offsets-fit U fine) t (b .1 .released) (omega (arith, in-time bytes U e)) in
         rw (sym same)
         (omega (
           arith,
           length-map (take (shown .count) (shown .run)) runningOf,
           length-take (shown .count) (shown .run),
-          roomy plan offsets st (plan .processors) .long,
+          row-few plan offsets (seenOf st) (plan-fits U fine .processors-most),
         )))
 
     row-fits : length row ≤ longestRow

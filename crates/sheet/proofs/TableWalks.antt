@@ -1,5 +1,5 @@
 -- The walk of an admitted table in memory is the rules' walk of the table: to its stop, or to an instant asked before it; and the figures that
--- its windows have kept are the rules' figures.
+-- it has kept are the rules' figures.
 use mathlib.Core.Path.{_≡_, sym, ap, subst, _∙_}
 use mathlib.Core.List.{List, [], _∷_, map}
 use mathlib.Core.Logic.{_⊎_}
@@ -65,9 +65,9 @@ module _ (U : Table) (ok : T (wellFormed U)) (short : hyperperiod U ≤ Limits.h
   walkable =
       let f = plan-fits U ok in
       record {
-        processors-some = f .processors-some;
         processors-most = f .processors-most;
         in-time = rw (largest-fits U ok, rounds-are) (last-boundary U ok short);
+        hyper-some = hyper-some U ok;
       }
 
   pub graphs-are : M .graphs ≡ length (U .graphs)
@@ -98,24 +98,24 @@ module _ (U : Table) (ok : T (wellFormed U)) (short : hyperperiod U ≤ Limits.h
         rw (le-ltb places (firstOf (U .graphs) g) (omega arith), le-ltb places (length (graphAt (U .graphs) g .nodes)) (omega arith))
         (omega (arith, sink-place 0 (U .graphs) g h))
 
-    figure-is : (g : ℕ) → g < length (U .graphs) → figureOf M st g ≡ figure X (whole (X .servers)) (getD (X .sinks) g 0) t
+    figure-is : (g : ℕ) → g < length (U .graphs) → figureOf M (st .worst) g ≡ figure X (whole (X .servers)) (getD (X .sinks) g 0) t
     figure-is g h =
         let (in-list, in-S, budget) = sink-is U ok g h in
         let small = plan-fits U ok .small in
         rw (laid U ok .graph g h, sink-of g h, lt-ltb (getD (X .sinks) g 0) places (omega arith)) (now .row (getD (X .sinks) g 0) in-S .worst)
 
-    pub figures-are : take (M .graphs) (figuresOf M st) ≡ figures X (whole (X .servers)) t
+    pub figures-are : take (M .graphs) (figuresOf M (st .worst)) ≡ figures X (whole (X .servers)) t
     unfolding figures
     figures-are =
         let zeros : List ℕ = replicate (Limits.graphs .to) 0 in
-        let long : length (figuresOf M st) ≡ Limits.graphs .to = replaced-length (figureOf M st) zeros (Limits.graphs .to) in
-        let cut : length (take (M .graphs) (figuresOf M st)) ≡ M .graphs = length-take-le (M .graphs) (figuresOf M st) (omega (arith, few-graphs)) in
+        let long : length (figuresOf M (st .worst)) ≡ Limits.graphs .to = replaced-length (figureOf M (st .worst)) zeros (Limits.graphs .to) in
+        let cut : length (take (M .graphs) (figuresOf M (st .worst))) ≡ M .graphs = length-take-le (M .graphs) (figuresOf M (st .worst)) (omega (arith, few-graphs)) in
         let whole-length : length (map (λ (i : ℕ). figure X (whole (X .servers)) i t) (X .sinks)) ≡ length (U .graphs) =
         length-map (X .sinks) (λ (i : ℕ). figure X (whole (X .servers)) i t) ∙ length-sinks 0 (U .graphs) in
-        ext-getD 0 (take (M .graphs) (figuresOf M st)) (map (λ (i : ℕ). figure X (whole (X .servers)) i t) (X .sinks)) (omega (arith, graphs-are))
+        ext-getD 0 (take (M .graphs) (figuresOf M (st .worst))) (map (λ (i : ℕ). figure X (whole (X .servers)) i t) (X .sinks)) (omega (arith, graphs-are))
         (λ g h.
         let inside : g < length (U .graphs) = omega (arith, graphs-are) in
-        getD-take (M .graphs) (figuresOf M st) g 0 (omega arith)
-        ∙ replaced-in (figureOf M st) zeros (Limits.graphs .to) g 0 (omega (arith, few-graphs)) (omega arith)
+        getD-take (M .graphs) (figuresOf M (st .worst)) g 0 (omega arith)
+        ∙ replaced-in (figureOf M (st .worst)) zeros (Limits.graphs .to) g 0 (omega (arith, few-graphs)) (omega arith)
         ∙ figure-is g inside
         ∙ sym (getD-map (λ (i : ℕ). figure X (whole (X .servers)) i t) (X .sinks) g 0 0 (omega (arith, length-sinks 0 (U .graphs)))))

@@ -12,9 +12,9 @@ use Rattle.walking.specs.Walking.{walkOf}
 
 -- what the walk asks of a table
 pub record Walkable (a : Admitted) : Type 0 where
-  pub processors-some : 1 ≤ planOf (a .table) .processors
   pub processors-most : planOf (a .table) .processors ≤ Limits.processors .to
   pub in-time : largestOffsetOf (a .table) + a .table .rounds * a .hyperperiod ≤ Limits.offset .to + Limits.rounds .to * Limits.hyperperiod .to
+  pub hyper-some : 1 ≤ a .hyperperiod
 
 unfoldable pub walkOfTable : Admitted → ℕ → Walk
 walkOfTable a asked =

@@ -1,6 +1,5 @@
-// The figure of each graph: the largest response that the window of its sink has kept.
+// The figure of each graph: the largest response that the walk has kept of its sink.
 use table::Graph;
-use table::State;
 use table::Table;
 ghost use mathlib.Core.Path.{_≡_};
 ghost use Rattle.sheet.specs.Figures as Mirror;
@@ -19,23 +18,24 @@ pub fn sink_of(g: Graph) -> usize
     if end == 0 { 0 } else { end - 1 }
 }
 
-pub fn worst_at(st: State, place: usize) -> u32
-    ensures { λ r. ⌜ r ≡ Mirror.worstAt st place ⌝ }
+// The largest response at a place; 0 where there is no such place.
+pub fn worst_at(worst: &[u32; Table::SERVERS], i: usize) -> u32
+    ensures { λ r. ⌜ r ≡ Mirror.worstAt (now (worst .entry)) i ⌝ }
 {
-    if place < Table::SERVERS {
-        let s = st.servers[place];
-        return s.worst;
+    if i < Table::SERVERS {
+        let figure = worst[i];
+        return figure;
     }
     0
 }
 
-pub fn figures_of(table: Table, st: State) -> [u32; Table::GRAPHS]
-    ensures { λ r. ⌜ r ≡ Mirror.figuresOf table st ⌝ }
+pub fn figures_of(table: Table, worst: [u32; Table::SERVERS]) -> [u32; Table::GRAPHS]
+    ensures { λ r. ⌜ r ≡ Mirror.figuresOf table worst ⌝ }
 {
     let mut f = [0u32; Table::GRAPHS];
     let mut g: usize = 0;
     while g < Table::GRAPHS {
-        f[g] = worst_at(st, sink_of(table.graph[g]));
+        f[g] = worst_at(&worst, sink_of(table.graph[g]));
         g += 1;
     }
     f

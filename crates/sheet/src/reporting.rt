@@ -39,13 +39,14 @@ pub fn put_settled(
 
 pub fn report_walk(table: Table, w: Walk, buffer: &mut [u8]) -> Answer
     requires { ⌜ table .graphs ≤ Limits.graphs .to ⌝ }
-    ensures { λ r. ⌜ called r (now (buffer .exit)) ≡ callOf (now (buffer .entry)) (reportOn (stopOf (w .how)) (w .ticks) (take (table .graphs) (figuresOf table (w .state)))) ⌝ }
+    ensures { λ r. ⌜ called r (now (buffer .exit)) ≡ callOf (now (buffer .entry)) (reportOn (stopOf (w .how)) (w .ticks) (take (table .graphs) (figuresOf table (w .state .worst)))) ⌝ }
 {
     let how = w.how;
     match how {
         How::Settled(k) => {
             let st = w.state;
-            put_settled(buffer, k, w.ticks, figures_of(table, st), table.graphs)
+            let worst = st.worst;
+            put_settled(buffer, k, w.ticks, figures_of(table, worst), table.graphs)
         }
         How::Backlog => Answer::Refused(Refusal::Backlog),
         How::Unsettled => Answer::Refused(Refusal::Unsettled),

@@ -43,7 +43,7 @@ pub fn put_running(buffer: &mut [u8], row: Row) -> Answer
 
 // A walk that stopped before it came to the instant asked is refused as 9.
 pub fn row_walk(table: Table, w: Walk, buffer: &mut [u8]) -> Answer
-    requires { ⌜ (1 ≤ planOf table .processors) × (planOf table .processors ≤ Limits.processors .to) ⌝ }
+    requires { ⌜ planOf table .processors ≤ Limits.processors .to ⌝ }
     ensures { λ r. ⌜ called r (now (buffer .exit)) ≡ callOf (now (buffer .entry)) (rowReply table w) ⌝ }
 {
     let how = w.how;

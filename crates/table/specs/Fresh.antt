@@ -1,7 +1,7 @@
 -- A table with no graph, an empty server, and the state at instant 0, in the form of the code's structs.
 use mathlib.Core.Bool.{false}
 use mathlib.Core.List.{List}
-use Prim.Native.Nat.{ℕ, _*_}
+use Prim.Native.Nat.{ℕ, _*_, _-_, _^_}
 use lib.ListN.{replicate}
 use Rattle.schedule.specs.Limits as Rules
 use Rattle.table.specs.declared.Table.{Table}
@@ -33,18 +33,26 @@ abbrev pub noJob : Pending
 noJob = record { behind = 0; linked = false }
 
 abbrev pub emptyServer : Server
-emptyServer = record { jobs = replicate Rules.pending noJob; worst = 0; unfinished = 0; unlinked = 0 }
+emptyServer = record { jobs = replicate Rules.pending noJob }
 
 -- the slots of all windows
 abbrev pub slots : ℕ
 slots = Rules.allNodes .to * Rules.pending
 
+-- no server job has this key
+abbrev pub noKey : ℕ
+noKey = 2 ^ 32 - 1
+
+-- each server's first release is at its offset
 abbrev pub freshState : List ℕ → State
 freshState offsets =
     record {
       servers = replicate (Rules.allNodes .to) emptyServer;
       left = replicate slots 0;
-      first = replicate (Rules.allNodes .to) 0;
+      first = replicate (Rules.allNodes .to) noKey;
       count = replicate (Rules.allNodes .to) 0;
-      until = offsets;
+      unfinished = replicate (Rules.allNodes .to) 0;
+      unlinked = replicate (Rules.allNodes .to) 0;
+      worst = replicate (Rules.allNodes .to) 0;
+      next = offsets;
     }

@@ -67,23 +67,42 @@ pub struct Pending {
     pub linked: bool,
 }
 
-// A server's window: its pending server jobs, the oldest first; the counts of document 01's state; the largest response of its jobs so far.
+// A server's window: its pending server jobs, the oldest first, shifted as the oldest complete.
 pub struct Server {
     pub jobs: [Pending; Table::WINDOW],
-    pub worst: u32,
-    pub unfinished: u8,
-    pub unlinked: u8,
 }
 
-// What a walk keeps. For each server, by its place: the window; how many server jobs are pending; the budget left of each, at place ×
-// WINDOW + slot; the key of the oldest, which is its deadline × SERVERS + place; and the ticks until the next release. What changes in each
-// tick stands in arrays of numbers, since an array inside an array of structs is changed by copying the struct.
+// What a walk keeps. For each server, by its place: the window; the budget left of each pending server job, at place × WINDOW + slot; the key
+// of the oldest, NO_KEY where none is pending; how many are pending; the two counts of document 01's state; the largest response of its
+// jobs so far; and the instant of its next release, so that nothing has to be counted down. All but the windows stands in arrays of numbers, since those can be
+// lent, and an array of structs cannot.
 pub struct State {
     pub servers: [Server; Table::SERVERS],
     pub left: [u16; Table::SLOTS],
     pub first: [u32; Table::SERVERS],
     pub count: [u8; Table::SERVERS],
-    pub until: [u16; Table::SERVERS],
+    pub unfinished: [u8; Table::SERVERS],
+    pub unlinked: [u8; Table::SERVERS],
+    pub worst: [u32; Table::SERVERS],
+    pub next: [u32; Table::SERVERS],
+}
+
+// What is kept of the state at a boundary, to be compared with the next one's.
+pub struct Kept {
+    pub servers: [Server; Table::SERVERS],
+    pub left: [u16; Table::SLOTS],
+    pub count: [u8; Table::SERVERS],
+    pub unfinished: [u8; Table::SERVERS],
+    pub unlinked: [u8; Table::SERVERS],
+    pub next: [u32; Table::SERVERS],
+}
+
+// What a report and a row show of a state.
+pub struct Seen {
+    pub servers: [Server; Table::SERVERS],
+    pub first: [u32; Table::SERVERS],
+    pub count: [u8; Table::SERVERS],
+    pub worst: [u32; Table::SERVERS],
 }
 
 impl Table {
@@ -148,9 +167,10 @@ impl Table {
 
     pub const SLOTS: usize = Table::SERVERS * Table::WINDOW;
 
-    pub const READY: usize = Table::SERVERS * Table::LEVEL_TO as usize;
-
     pub const RUNNING: usize = Table::PROCESSORS_TO as usize;
+
+    // No server job has this key.
+    pub const NO_KEY: u32 = u32::MAX;
 
     // The nine keys in the order in which they stand.
     pub const NAME_LENGTH: usize = 10;
@@ -349,23 +369,23 @@ impl Table {
         };
         Server {
             jobs: [p; Table::WINDOW],
-            worst: 0,
-            unfinished: 0,
-            unlinked: 0,
         }
     }
 
-    // The state at instant 0: each server's first release is its offset away.
-    pub fn fresh(offsets: [u16; Table::SERVERS]) -> State
+    // The state at instant 0: each server's first release is at its offset.
+    pub fn fresh(offsets: [u32; Table::SERVERS]) -> State
         ensures { λ r. ⌜ r ≡ freshState offsets ⌝ }
     {
         let s = Table::empty_server();
         State {
             servers: [s; Table::SERVERS],
             left: [0u16; Table::SLOTS],
-            first: [0u32; Table::SERVERS],
+            first: [Table::NO_KEY; Table::SERVERS],
             count: [0u8; Table::SERVERS],
-            until: offsets,
+            unfinished: [0u8; Table::SERVERS],
+            unlinked: [0u8; Table::SERVERS],
+            worst: [0u32; Table::SERVERS],
+            next: offsets,
         }
     }
 }

@@ -23,3 +23,5 @@ pub mod Formed
 pub mod FormedGraphs
 pub mod TableBox
 pub mod LeastTrue
+pub mod QuietSpans
+pub mod QuietWalk

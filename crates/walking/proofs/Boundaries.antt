@@ -39,7 +39,7 @@ module _ (X : Box) (need : ℕ → ℕ → ℕ) (some : 0 < X .hyper) (t next ro
       let m : (d + r * X .hyper) % X .hyper ≡ 0 = rw split at z in
       omega (arith, add-mul-mod-self-right d r (X .hyper), mod-eq-of-lt {n = d} {m = X .hyper} (omega arith))
 
-  not-at : t < next → atBoundary X need t ≡ false
+  pub not-at : t < next → atBoundary X need t ≡ false
   unfolding atBoundary
   not-at l =
       by-lt (X .origin) t (λ o. rw (lt-ltb (X .origin) t o, ne-eqb ((t - X .origin) % X .hyper) 0 (λ z. by round refl o z))) (λ o. rw (le-ltb (X .origin) t o))
@@ -63,7 +63,7 @@ module _ (X : Box) (need : ℕ → ℕ → ℕ) (some : 0 < X .hyper) (t next ro
       rw d (mul-div-cancel round {n = X .hyper} some)
 
   -- the last boundary
-  next-most : (m : ℕ) → round ≤ m → next ≤ boundary X need m
+  pub next-most : (m : ℕ) → round ≤ m → next ≤ boundary X need m
   unfolding boundary
   next-most m h = omega (arith, b .is, mul-le-mul-right (X .hyper) h)
 
@@ -86,13 +86,12 @@ module _ (X : Box) (need : ℕ → ℕ → ℕ) (some : 0 < X .hyper) (t next ro
   pub within : round ≤ X .rounds → t ≤ boundary X need (X .rounds)
   within h = omega (arith, b .ahead, next-most (X .rounds) h)
 
-  -- one instant on: the same boundary, or the one after it
-  pub later-same : t < next → Next X (suc t) next round
-  later-same l = record { is = b .is; ahead = l; near = λ p. omega (arith, b .near p) }
+  -- some ticks on: the same boundary, or the one after it
+  pub later-same : (e : ℕ) → t + e ≤ next → Next X (t + e) next round
+  later-same e l = record { is = b .is; ahead = l; near = λ p. omega (arith, b .near p) }
 
-  pub later-next : t ≡ next → Next X (suc t) (next + X .hyper) (suc round)
-  later-next e =
-      record { is = rw (suc-mul round (X .hyper)) (omega (arith, b .is)); ahead = omega arith; near = λ p. omega arith }
+  pub later-next : (e : ℕ) → t ≡ next → 1 ≤ e → t + e ≤ next + X .hyper → Next X (t + e) (next + X .hyper) (suc round)
+  later-next e at l m = record { is = rw (suc-mul round (X .hyper)) (omega (arith, b .is)); ahead = m; near = λ p. omega arith }
 
   pub next-within : round < X .rounds → next + X .hyper ≤ boundary X need (X .rounds)
   unfolding boundary

@@ -1,15 +1,16 @@
--- The walk over windows ends where the rules' walk stops first, or at the instant asked where that comes before.
-use mathlib.Core.Path.{_≡_, refl, sym, ap, _∙_}
+-- The walk over windows, from event to event, ends where the rules' walk stops first, or at the instant asked where that comes before: each of
+-- its spans is quiet, so the rules' walk does not stop inside.
+use mathlib.Core.Path.{_≡_, refl, sym, ap, subst, _∙_}
 use mathlib.Core.Bool.{Bool, true, false, _&&_, cond}
 use mathlib.Core.List.{List}
 use mathlib.Core.Option.{none, some}
 use mathlib.Core.Logic.{_⊎_, inl, inr}
 use Prim.Native.Nat.{ℕ, zero, suc, _+_, _*_, _-_, _≤_, _<_}
-use native.Mathlib.Nat.{zero-mul, not-suc-le-zero}
+use native.Mathlib.Nat.{zero-mul, suc-mul, not-suc-le-zero}
 use native.Mathlib.Omega.{arith}
 use lib.Dec.{ltb, eqb}
 use lib.ListN.{length}
-use borrow.Author.Tests.{eq-eqb, eqb-true, eqb-false, ltb-true}
+use borrow.Author.Tests.{eqb-true, eqb-false, ltb-true}
 use Rattle.schedule.specs.Servers.{Box, srv, whole}
 use Rattle.schedule.specs.ServerJobs.{used}
 use Rattle.schedule.specs.Links.{links}
@@ -18,25 +19,29 @@ use Rattle.schedule.specs.Walk as Rules
 use Rattle.schedule.specs.Walk.{Stop, settled, unsettled, backlog, boundary, atBoundary, roundAt, stopWith, stopAt}
 use Rattle.schedule.proofs.Tests.{by-lt, either-way, dec}
 use Rattle.theorems.proofs.Unique.{FirstStop}
+use Rattle.theorems.proofs.QuietSpans.{Quiet}
+use Rattle.theorems.proofs.QuietWalk.{whole-ahead, goes-on-within}
 use Rattle.table.specs.declared.State.{State}
+use Rattle.table.specs.declared.Kept.{Kept}
 use Rattle.table.specs.Fresh.{freshState}
 use Rattle.window.specs.declared.Plan.{Plan}
-use Rattle.window.specs.Entries.{nodesOf}
-use Rattle.window.specs.Loops.{someBelow}
-use Rattle.window.specs.Releasing.{anyReleases, backlogged, full, releases}
-use Rattle.window.specs.Choosing.{nextKey}
-use Rattle.window.specs.Comparing.{sameStates}
-use Rattle.window.specs.Ticking.{releasedAt, worked}
+use Rattle.window.specs.Entries.{further, nodesOf}
+use Rattle.window.specs.Releasing.{releasedAt}
+use Rattle.window.specs.Comparing.{keep}
+use Rattle.window.specs.Working.{worked}
 use Rattle.window.proofs.Relation.{lastInstant, Fits, InStep, Released}
+use Rattle.window.proofs.Places.{sink-at}
 use Rattle.window.proofs.Backlog.{backlog-is}
 use Rattle.window.proofs.Release.{release-keeps}
+use Rattle.window.proofs.Keeping.{KeptSized, Holds, keep-sized, keep-holds}
 use Rattle.window.proofs.Compare.{same-states}
 use Rattle.window.proofs.Working.{works}
 use Rattle.walking.specs.declared.How.{How}
 use Rattle.walking.specs.declared.How.the-variants.{Settled, Unsettled, Backlog, Reached}
 use Rattle.walking.specs.declared.Walk.{Walk}
-use Rattle.walking.specs.Walking.{ended, walkFrom, walkOf}
-use Rattle.walking.proofs.Boundaries.{Next, boundary-is, round-is, last-is, within, later-same, later-next, next-within}
+use Rattle.walking.specs.Walking.{seenOf, keptOf, ended, settles, runsOut, backlogs, laterOf, roundOf, keptFrom, ticksFrom, decided}
+use Rattle.walking.specs.Walking.{walkFrom, walkOf}
+use Rattle.walking.proofs.Boundaries.{Next, boundary-is, round-is, last-is, within, not-at, next-most, later-same, later-next, next-within}
 
 -- the engine's word for a stop of the rules
 abbrev pub howOf : Stop → How
@@ -48,36 +53,33 @@ module _ (X : Box) where
   abbrev need : ℕ → ℕ → ℕ
   need = whole (X .servers)
 
-  -- the walk stopped as the rules' does, at or before the instant asked
+  -- the walk stopped as the rules' does, at or before the instant asked; it shows a state in step
   pub record Stops (asked : ℕ) (w : Walk) : Type 0 where
     pub stop : Stop
     pub how : w .how ≡ howOf stop
     pub first : FirstStop X need stop (w .ticks)
-    pub in-step : InStep X (w .ticks) (w .state)
+    pub state : State
+    pub shows : w .state ≡ seenOf state
+    pub in-step : InStep X (w .ticks) state
     pub by : w .ticks ≤ asked
 
   -- it came to the instant asked, and the rules' walk does not stop up to there
   pub record Comes (asked : ℕ) (w : Walk) : Type 0 where
     pub how : w .how ≡ Reached
     pub ticks : w .ticks ≡ asked
-    pub released : Released X asked (w .state)
+    pub state : State
+    pub shows : w .state ≡ seenOf state
+    pub released : Released X asked state
     pub goes-on : (u : ℕ) → u ≤ asked → stopAt X need u ≡ none
 
   abbrev pub Ends : ℕ → Walk → Type 0
   Ends asked w = Stops asked w ⊎ Comes asked w
 
--- no release, no backlog
-some-or : (p q : ℕ → Bool) → ((i : ℕ) → p i ≡ false → q i ≡ false) → (n : ℕ) → someBelow p n ≡ false → someBelow q n ≡ false
-unfolding someBelow
-some-or p q h zero e = refl
-some-or p q h (suc n) e = both (someBelow p n) (p n) (someBelow q n) (q n) (some-or p q h n) (h n) e
-  where
-    both : (a b c d : Bool) → (a ≡ false → c ≡ false) → (b ≡ false → d ≡ false) → (mathlib.Core.Bool._||_ a b) ≡ false → (mathlib.Core.Bool._||_ c d) ≡ false
-    both true b c d f g e = let z : _≡_ {A = Bool} true false = e in absurd (let w : _≡_ {A = ℕ} 0 1 = cc in let v : ⊥ = omega arith in v)
-    both false b c d f g e = rw (f refl) (g e)
-
-gated : (plan : Plan) (st : State) (n : ℕ) → (anyReleases (st .until) n && backlogged plan st n) ≡ backlogged plan st n
-gated plan st n = either-way (dec (anyReleases (st .until) n)) (λ e. rw e) (λ e. rw (e, some-or (releases (st .until)) (full plan st) (λ i z. rw z) n e))
+  -- what is kept of the boundary u: the first n places of a state in step there
+  record Keeps (n u : ℕ) (kept : Kept) : Type 0 where
+    of : State
+    in-step : InStep X u of
+    holds : Holds of n kept
 
 module _ (X : Box) (plan : Plan) (fits : Fits X plan) (hyper-some : 0 < X .hyper) (time : X .origin + X .rounds * X .hyper ≤ lastInstant)
     (late : (i : ℕ) → i < length (X .servers) → (srv (X .servers) i) .offset ≤ X .origin) where
@@ -85,24 +87,32 @@ module _ (X : Box) (plan : Plan) (fits : Fits X plan) (hyper-some : 0 < X .hyper
   nodes = nodesOf plan
 
   -- what is known when the walk comes to t
-  record Known (asked t next round : ℕ) (st saved : State) : Type 0 where
+  record Known (asked t next round : ℕ) (st : State) (kept : Kept) : Type 0 where
     next-is : Next X t next round
     in-step : InStep X t st
-    kept : 0 < round → InStep X (next - X .hyper) saved
+    keeps : 0 < round → Keeps X nodes (next - X .hyper) kept
+    sized : KeptSized kept
     most : round ≤ X .rounds
     goes-on : (u : ℕ) → u < t → stopAt X (need X) u ≡ none
     asked-later : t ≤ asked
 
-  module _ (asked t next round : ℕ) (st saved : State) (k : Known asked t next round st saved) where
+  module _ (asked t next round : ℕ) (st : State) (kept : Kept) (k : Known asked t next round st kept) where
     -- the three tests of the rules, by the windows
     A : Bool
-    A = eqb t next && (ltb 0 round && sameStates st saved nodes)
+    A = settles plan (X .hyper) (X .rounds) asked t next round st kept
 
     B : Bool
-    B = eqb t next && eqb round (X .rounds)
+    B = runsOut plan (X .hyper) (X .rounds) asked t next round
 
     C : Bool
-    C = anyReleases (st .until) nodes && backlogged plan st nodes
+    C = backlogs plan (X .hyper) (X .rounds) asked t st
+
+    in-time : t ≤ boundary X (need X) (X .rounds)
+    in-time = within X (need X) hyper-some t next round (k .next-is) (k .most)
+
+    early : t ≤ lastInstant
+    unfolding boundary
+    early = omega (arith, in-time)
 
     settled-test : (atBoundary X (need X) t && sameState (stateAt X (need X) t) (stateAt X (need X) (t - X .hyper))) ≡ A
     unfolding A
@@ -114,8 +124,9 @@ module _ (X : Box) (plan : Plan) (fits : Fits X plan) (hyper-some : 0 < X .hyper
         let q : t ≡ next = eqb-true t next e in
         let p : 0 < round = ltb-true 0 round f in
         let far : X .origin + X .hyper ≤ next = far-from round refl p in
-        let same = same-states X plan fits t (t - X .hyper) st saved (k .in-step) (rw q (k .kept p)) (λ i h. omega (arith, late i h))
-        (λ i h. omega (arith, late i h)) in
+        let z : Keeps X nodes (t - X .hyper) kept = rw q (k .keeps p) in
+        let same =
+        same-states X plan fits t (t - X .hyper) (omega arith) early st (z .of) (k .in-step) (z .in-step) (λ i h. omega (arith, late i h)) kept (z .holds) in
         rw (e, f) (sym same))
         (λ f. rw (e, f)))
         (λ e. rw e))
@@ -123,8 +134,7 @@ module _ (X : Box) (plan : Plan) (fits : Fits X plan) (hyper-some : 0 < X .hyper
         far-from : (r : ℕ) → round ≡ r → 0 < r → X .origin + X .hyper ≤ next
         far-from zero e p = absurd (not-suc-le-zero p)
         far-from (suc r) e p =
-            let w : next ≡ X .origin + suc r * X .hyper = k .next-is .is ∙ rw e in
-            omega (arith, native.Mathlib.Nat.suc-mul r (X .hyper))
+            let w : next ≡ X .origin + suc r * X .hyper = k .next-is .is ∙ rw e in omega (arith, suc-mul r (X .hyper))
 
     numbered : cond A (some (settled (roundAt X (need X) t))) (cond B (some unsettled) (cond C (some backlog) none))
         ≡ cond A (some (settled round)) (cond B (some unsettled) (cond C (some backlog) none))
@@ -137,7 +147,7 @@ module _ (X : Box) (plan : Plan) (fits : Fits X plan) (hyper-some : 0 < X .hyper
 
     backlog-test : Rules.backlogged (X .servers) (need X) (used (X .servers) (X .cap) t) (links (X .servers) (X .cap) (need X) t) t (X .sinks) ≡ C
     unfolding C
-    backlog-test = sym (backlog-is X plan fits t st (k .in-step)) ∙ sym (gated plan st nodes)
+    backlog-test = sym (backlog-is X plan fits t st (k .in-step) early)
 
     stop-is : stopAt X (need X) t ≡ cond A (some (settled round)) (cond B (some unsettled) (cond C (some backlog) none))
     unfolding stopAt stopWith stateAt
@@ -148,110 +158,159 @@ module _ (X : Box) (plan : Plan) (fits : Fits X plan) (hyper-some : 0 < X .hyper
     none-now : A ≡ false → B ≡ false → C ≡ false → stopAt X (need X) t ≡ none
     none-now a b c = stop-is ∙ rw (a, b, c)
 
-    in-time : t ≤ boundary X (need X) (X .rounds)
-    in-time = within X (need X) hyper-some t next round (k .next-is) (k .most)
-
     now-released : C ≡ false → Released X t (releasedAt plan t st)
-    unfolding C boundary
-    now-released c = release-keeps X plan fits t st (k .in-step) (omega (arith, in-time)) (sym (gated plan st nodes) ∙ c)
+    unfolding C
+    now-released c = release-keeps X plan fits t st (k .in-step) early c
 
-    -- the walk goes on: the next instant is known in turn
-    module _ (a : A ≡ false) (b : B ≡ false) (c : C ≡ false) (d : eqb t asked ≡ false) where
-      none-yet : (u : ℕ) → u < suc t → stopAt X (need X) u ≡ none
-      none-yet u l = by-lt u t (λ h. k .goes-on u h) (λ h. let e : u ≡ t = omega arith in rw e (none-now a b c))
+    abbrev later : ℕ
+    later = laterOf plan (X .hyper) (X .rounds) asked t next
 
-      worked-on : t < boundary X (need X) (X .rounds) → InStep X (suc t) (worked plan t (releasedAt plan t st))
-      unfolding boundary
-      worked-on l = works X plan t (releasedAt plan t st) fits (now-released c) (omega arith)
+    abbrev round′ : ℕ
+    round′ = roundOf plan (X .hyper) (X .rounds) asked t next round
 
-      not-last : t < boundary X (need X) (X .rounds)
-      unfolding B
-      not-last = by-lt t (boundary X (need X) (X .rounds)) (λ l. l)
-          (λ l.
-          let e : eqb t (boundary X (need X) (X .rounds)) ≡ true = eq-eqb t (boundary X (need X) (X .rounds)) (omega (arith, in-time)) in
-          let z : _≡_ {A = Bool} true false = sym e ∙ last-test ∙ b in
-          absurd (let w : _≡_ {A = ℕ} 0 1 = cc in let v : ⊥ = omega arith in v))
+    abbrev kept′ : Kept
+    kept′ = keptFrom plan (X .hyper) (X .rounds) asked t next st kept
 
-      known-same : eqb t next ≡ false → Known asked (suc t) next round (worked plan t (releasedAt plan t st)) saved
-      known-same e =
+    -- `later` is the first boundary after t, number `r`; `held` what is kept of the one before it
+    record Later (later r : ℕ) (held : Kept) : Type 0 where
+      ahead : t < later
+      next-later : (e : ℕ) → 1 ≤ e → t + e ≤ later → Next X (t + e) later r
+      by-last : later ≤ boundary X (need X) (X .rounds)
+      most : r ≤ X .rounds
+      keeps : 0 < r → Keeps X nodes (later - X .hyper) held
+      sized : KeptSized held
+
+    later-next-is : B ≡ false → eqb t next ≡ true → Later (further next (X .hyper)) (suc round) (keep st kept nodes)
+    unfolding B boundary
+    later-next-is b e =
+        let q : t ≡ next = eqb-true t next e in
+        let r : eqb round (X .rounds) ≡ false = rw e at b in
+        let more : round < X .rounds = omega (arith, k .most, eqb-false round (X .rounds) r) in
+        let by = next-within X (need X) hyper-some t next round (k .next-is) more in
+        let uncut : further next (X .hyper) ≡ next + X .hyper = omega (arith, by) in
+        let back : next + X .hyper - X .hyper ≡ t = omega arith in
+        rw uncut
+        (record {
+          ahead = omega arith;
+          next-later = λ d l m. later-next X (need X) hyper-some t next round (k .next-is) d q l m;
+          by-last = by;
+          most = more;
+          keeps = λ p. rw back (record { of = st; in-step = k .in-step; holds = keep-holds st kept nodes (k .sized) (omega arith) });
+          sized = keep-sized st kept nodes (k .sized);
+        })
+
+    later-same-is : eqb t next ≡ false → Later next round kept
+    later-same-is e =
+        record {
+          ahead = omega (arith, k .next-is .ahead, eqb-false t next e);
+          next-later = λ d l m. later-same X (need X) hyper-some t next round (k .next-is) d m;
+          by-last = next-most X (need X) hyper-some t next round (k .next-is) (X .rounds) (k .most);
+          most = k .most;
+          keeps = k .keeps;
+          sized = k .sized;
+        }
+
+    later-is : B ≡ false → Later later round′ kept′
+    later-is b = either-way (dec (eqb t next)) (λ e. rw e (later-next-is b e)) (λ e. rw e (later-same-is e))
+
+    abbrev a : State
+    a = releasedAt plan t st
+
+    abbrev ticks : ℕ
+    ticks = ticksFrom plan (X .hyper) (X .rounds) asked t next a
+
+    -- the walk goes on: the end of the span is known in turn
+    module _ (no-a : A ≡ false) (no-b : B ≡ false) (no-c : C ≡ false) (no-d : eqb t asked ≡ false) where
+      before : t < asked
+      before = omega (arith, k .asked-later, eqb-false t asked no-d)
+
+      span : (1 ≤ ticks) × (t + ticks ≤ later) × (t + ticks ≤ asked) × Quiet (X .servers) (X .cap) t ticks × InStep X (t + ticks) (worked plan t ticks a)
+      span = works X plan fits t later asked a (now-released no-c) ((later-is no-b) .ahead) before early
+
+      none-inside : (e : ℕ) → e < ticks → stopAt X (need X) (t + e) ≡ none
+      none-inside =
+          let (least, by, by-asked, quiet, now) = span in
+          let l = later-is no-b in
+          goes-on-within X (need X) t ticks quiet (λ i h. whole-ahead (X .servers) (X .cap) t ticks quiet i h ((fits .at i h) .budget-some)) (sink-at X plan fits)
+          (λ e m n. not-at X (need X) hyper-some (t + e) later round′ (l .next-later e m (omega arith)) (omega arith)) (omega (arith, l .by-last))
+          (none-now no-a no-b no-c)
+
+      none-yet : (u : ℕ) → u < t + ticks → stopAt X (need X) u ≡ none
+      none-yet u m =
+          by-lt u t (λ h. k .goes-on u h)
+          (λ h. let e : u ≡ t + (u - t) = omega arith in rw e (none-inside (u - t) (omega arith)))
+
+      known-later : Known asked (t + ticks) later round′ (worked plan t ticks a) kept′
+      known-later =
+          let (least, by, by-asked, quiet, now) = span in
+          let l = later-is no-b in
           record {
-            next-is = later-same X (need X) hyper-some t next round (k .next-is) (omega (arith, k .next-is .ahead, eqb-false t next e));
-            in-step = worked-on not-last;
-            kept = k .kept;
-            most = k .most;
+            next-is = l .next-later ticks least by;
+            in-step = now;
+            keeps = l .keeps;
+            sized = l .sized;
+            most = l .most;
             goes-on = none-yet;
-            asked-later = omega (arith, k .asked-later, eqb-false t asked d);
+            asked-later = by-asked;
           }
 
-      known-next : eqb t next ≡ true → Known asked (suc t) (nextKey next (X .hyper)) (suc round) (worked plan t (releasedAt plan t st)) st
-      unfolding B boundary
-      known-next e =
-          let q : t ≡ next = eqb-true t next e in
-          let r : eqb round (X .rounds) ≡ false = rw e at b in
-          let more : round < X .rounds = omega (arith, k .most, eqb-false round (X .rounds) r) in
-          let fits : nextKey next (X .hyper) ≡ next + X .hyper =
-          omega (arith, next-within X (need X) hyper-some t next round (k .next-is) more) in
-          let back : next + X .hyper - X .hyper ≡ t = omega arith in
-          rw fits
-          (record {
-            next-is = later-next X (need X) hyper-some t next round (k .next-is) q;
-            in-step = worked-on not-last;
-            kept = λ p. rw back (k .in-step);
-            most = more;
-            goes-on = none-yet;
-            asked-later = omega (arith, k .asked-later, eqb-false t asked d);
-          })
-
-      known-later : Known asked (suc t) (cond (eqb t next) (nextKey next (X .hyper)) next) (cond (eqb t next) (suc round) round)
-          (worked plan t (releasedAt plan t st)) (cond (eqb t next) st saved)
-      known-later = either-way (dec (eqb t next)) (λ e. rw e (known-next e)) (λ e. rw e (known-same e))
-
     stops : (s : Stop) → stopAt X (need X) t ≡ some s → Ends X asked (ended (howOf s) t st)
-    stops s e = inl (record { stop = s; how = refl; first = record { stops = e; not-before = k .goes-on }; in-step = k .in-step; by = k .asked-later })
+    stops s e =
+        inl (record {
+          stop = s;
+          how = refl;
+          first = record { stops = e; not-before = k .goes-on };
+          state = st;
+          shows = refl;
+          in-step = k .in-step;
+          by = k .asked-later;
+        })
 
-    comes : A ≡ false → B ≡ false → C ≡ false → eqb t asked ≡ true → Ends X asked (ended Reached t (releasedAt plan t st))
-    comes a b c d =
+    comes : A ≡ false → B ≡ false → C ≡ false → eqb t asked ≡ true → Ends X asked (ended Reached t a)
+    comes no-a no-b no-c d =
         let e : t ≡ asked = eqb-true t asked d in
         inr (record {
           how = refl;
           ticks = e;
-          released = rw (← e) (now-released c);
-          goes-on = λ u l. by-lt u t (λ h. k .goes-on u h) (λ h. let q : u ≡ t = omega arith in rw q (none-now a b c));
+          state = a;
+          shows = refl;
+          released = subst (λ (u : ℕ). Released X u a) e (now-released no-c);
+          goes-on = λ u l. by-lt u t (λ h. k .goes-on u h) (λ h. let q : u ≡ t = omega arith in rw q (none-now no-a no-b no-c));
         })
 
-    by-tests : (later : Walk) → (A ≡ false → B ≡ false → C ≡ false → eqb t asked ≡ false → Ends X asked later) → (a b c d : Bool) → A ≡ a → B ≡ b → C ≡ c → eqb t asked ≡ d
-        → Ends X asked
-        (cond a (ended (Settled round) t st)
-        (cond b (ended Unsettled t st) (cond c (ended Backlog t st) (cond d (ended Reached t (releasedAt plan t st)) later))))
-    by-tests later h true b c d e f g i = stops (settled round) (stop-is ∙ rw e)
-    by-tests later h false true c d e f g i = stops unsettled (stop-is ∙ rw (e, f))
-    by-tests later h false false true d e f g i = stops backlog (stop-is ∙ rw (e, f, g))
-    by-tests later h false false false true e f g i = comes e f g i
-    by-tests later h false false false false e f g i = h e f g i
+    ends-now : (rest : Walk) → (A ≡ false → B ≡ false → C ≡ false → eqb t asked ≡ false → Ends X asked rest)
+        → Ends X asked (decided plan (X .hyper) (X .rounds) asked t next round st kept rest)
+    unfolding A B C
+    ends-now rest later =
+        either-way (dec A) (λ e. rw e (stops (settled round) (stop-is ∙ rw e)))
+        (λ e. either-way (dec B) (λ f. rw (e, f) (stops unsettled (stop-is ∙ rw (e, f))))
+        (λ f. either-way (dec C) (λ g. rw (e, f, g) (stops backlog (stop-is ∙ rw (e, f, g))))
+        (λ g. either-way (dec (eqb t asked)) (λ h. rw (e, f, g, h) (comes e f g h)) (λ h. rw (e, f, g, h) (later e f g h)))))
 
-  -- from any instant on, while there is time left up to the last boundary
-  ends-from : (asked left t next round : ℕ) (st saved : State) → Known asked t next round st saved → boundary X (need X) (X .rounds) < t + left
-      → Ends X asked (walkFrom plan (X .hyper) (X .rounds) asked left t next round st saved)
-  unfolding walkFrom A B C
-  ends-from asked zero t next round st saved k l = absurd (let x : ⊥ = omega (arith, in-time asked t next round st saved k) in x)
-  ends-from asked (suc left) t next round st saved k l =
-      by-tests asked t next round st saved k
-      (walkFrom plan (X .hyper) (X .rounds) asked left (suc t) (cond (eqb t next) (nextKey next (X .hyper)) next) (cond (eqb t next) (suc round) round)
-      (worked plan t (releasedAt plan t st)) (cond (eqb t next) st saved))
+  -- from any instant on: a span takes a tick at least, so there are events left while there is time left up to the last boundary
+  ends-from : (asked left t next round : ℕ) (st : State) (kept : Kept) → Known asked t next round st kept → boundary X (need X) (X .rounds) < t + left
+      → Ends X asked (walkFrom plan (X .hyper) (X .rounds) asked left t next round st kept)
+  unfolding walkFrom
+  ends-from asked zero t next round st kept k l = absurd (let x : ⊥ = omega (arith, in-time asked t next round st kept k) in x)
+  ends-from asked (suc left) t next round st kept k l =
+      ends-now asked t next round st kept k
+      (walkFrom plan (X .hyper) (X .rounds) asked left (t + ticks asked t next round st kept k) (later asked t next round st kept k)
+      (round′ asked t next round st kept k) (worked plan t (ticks asked t next round st kept k) (releasedAt plan t st)) (kept′ asked t next round st kept k))
       (λ a b c d.
-      ends-from asked left (suc t) (cond (eqb t next) (nextKey next (X .hyper)) next) (cond (eqb t next) (suc round) round)
-      (worked plan t (releasedAt plan t st)) (cond (eqb t next) st saved) (known-later asked t next round st saved k a b c d) (omega arith))
-      (A asked t next round st saved k) (B asked t next round st saved k) (C asked t next round st saved k) (eqb t asked) refl refl refl refl
+      ends-from asked left (t + ticks asked t next round st kept k) (later asked t next round st kept k) (round′ asked t next round st kept k)
+      (worked plan t (ticks asked t next round st kept k) (releasedAt plan t st)) (kept′ asked t next round st kept k)
+      (known-later asked t next round st kept k a b c d) (omega (arith, (span asked t next round st kept k a b c d) .0)))
 
   pub walk-ends : (offsets : List ℕ) → InStep X 0 (freshState offsets) → (asked : ℕ)
       → Ends X asked (walkOf plan offsets (X .origin) (X .hyper) (X .rounds) asked)
   unfolding walkOf boundary
   walk-ends offsets fresh asked =
-      ends-from asked (suc (X .origin + X .rounds * X .hyper)) 0 (X .origin) 0 (freshState offsets) (freshState offsets)
+      ends-from asked (suc (X .origin + X .rounds * X .hyper)) 0 (X .origin) 0 (freshState offsets) (keptOf (freshState offsets))
       (record {
         next-is = record { is = omega (arith, zero-mul (X .hyper)); ahead = omega arith; near = λ p. absurd (not-suc-le-zero p) };
         in-step = fresh;
-        kept = λ p. absurd (not-suc-le-zero p);
+        keeps = λ p. absurd (not-suc-le-zero p);
+        sized = record { servers = fresh .sized .servers; left = fresh .sized .left };
         most = omega arith;
         goes-on = λ u l. absurd (not-suc-le-zero l);
         asked-later = omega arith;

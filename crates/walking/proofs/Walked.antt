@@ -1,6 +1,6 @@
 -- What the walk over windows gives: where the rules' walk stops at or before the instant asked, that stop; else the state after the releases
 -- of the instant asked.
-use mathlib.Core.Path.{_≡_, ap, _∙_}
+use mathlib.Core.Path.{_≡_, ap, subst, _∙_}
 use mathlib.Core.List.{List}
 use mathlib.Core.Option.{some}
 use mathlib.Core.Logic.{_⊎_, inl, inr}
@@ -12,36 +12,49 @@ use Rattle.schedule.specs.Walk.{Stopped, stopped}
 use Rattle.schedule.proofs.Tests.{by-lt, either-way}
 use Rattle.theorems.proofs.Unique.{first-stop-is-unique}
 use Rattle.theorems.proofs.FirstStop.{stopped-is-first}
+use Rattle.table.specs.declared.State.{State}
 use Rattle.window.specs.declared.Plan.{Plan}
 use Rattle.window.specs.Entries.{places}
 use Rattle.window.proofs.Relation.{lastInstant, Fits, InStep, Released}
 use Rattle.window.proofs.Fresh.{fresh-in-step}
 use Rattle.walking.specs.declared.How.the-variants.{Reached}
 use Rattle.walking.specs.declared.Walk.{Walk}
-use Rattle.walking.specs.Walking.{walkOf}
+use Rattle.walking.specs.Walking.{seenOf, walkOf}
 use Rattle.walking.proofs.Ends.{howOf, Stops, Comes, walk-ends}
 
 module _ (X : Box) where
   abbrev pub stop : Stopped
   stop = stopped X (whole (X .servers))
 
-  -- the walk over windows stopped as and when the rules' walk does
+  -- the walk over windows stopped as and when the rules' walk does, and shows a state in step
   pub record AtStop (w : Walk) : Type 0 where
     pub how : w .how ≡ howOf (stop .how)
     pub ticks : w .ticks ≡ stop .ticks
-    pub in-step : InStep X (stop .ticks) (w .state)
+    pub state : State
+    pub shows : w .state ≡ seenOf state
+    pub in-step : InStep X (stop .ticks) state
 
   pub record BeforeStop (asked : ℕ) (w : Walk) : Type 0 where
     pub how : w .how ≡ Reached
-    pub released : Released X asked (w .state)
+    pub state : State
+    pub shows : w .state ≡ seenOf state
+    pub released : Released X asked state
 
   at-stop : (asked : ℕ) (w : Walk) → Stops X asked w → (stop .ticks ≤ asked) × AtStop w
   at-stop asked w e =
-      let (same, how) = first-stop-is-unique X (whole (X .servers)) (e .stop) (stop .how) (w .ticks) (stop .ticks) (e .first) (stopped-is-first X (whole (X .servers))) in
-      (omega (arith, e .by), record { how = e .how ∙ ap howOf how; ticks = same; in-step = rw same at (e .in-step) })
+      let (same, how) = first-stop-is-unique X (whole (X .servers)) (e .stop) (stop .how) (w .ticks) (stop .ticks) (e .first) (stopped-is-first X (whole (X .servers))) in (
+        omega (arith, e .by),
+        record {
+          how = e .how ∙ ap howOf how;
+          ticks = same;
+          state = e .state;
+          shows = e .shows;
+          in-step = subst (λ (u : ℕ). InStep X u (e .state)) same (e .in-step);
+        },
+      )
 
   before-stop : (asked : ℕ) (w : Walk) → Comes X asked w → (asked < stop .ticks) × BeforeStop asked w
-  before-stop asked w e = (later, record { how = e .how; released = e .released })
+  before-stop asked w e = (later, record { how = e .how; state = e .state; shows = e .shows; released = e .released })
     where
       later : asked < stop .ticks
       later =

@@ -1,5 +1,7 @@
-// The walk: from what a tick needs of an admitted table to its stop, or to an instant asked before it.
-use table::State;
+// The walk: from what it needs of an admitted table to its stop, or to an instant asked before it. It goes from event to event.
+use table::Kept;
+use table::Seen;
+use table::Server;
 use table::Table;
 use window::Plan;
 ghost use mathlib.Core.Path.{_≡_};
@@ -15,68 +17,140 @@ pub enum How {
     Reached,
 }
 
-// How, at which instant, and the state there: before the releases of that instant, but after them where the walk ended at the instant asked.
+// How, at which instant, and what is shown of the state there: before the releases of that instant, but after them where the walk ended at
+// the instant asked.
 pub struct Walk {
     pub how: How,
     pub ticks: u32,
-    pub state: State,
+    pub state: Seen,
 }
 
-pub fn ended(how: How, ticks: u32, state: State) -> Walk
-    ensures { λ r. ⌜ r ≡ Mirror.ended how ticks state ⌝ }
+pub fn ended(
+    how: How,
+    ticks: u32,
+    servers: [Server; Table::SERVERS],
+    first: [u32; Table::SERVERS],
+    count: [u8; Table::SERVERS],
+    worst: [u32; Table::SERVERS],
+) -> Walk
+    ensures { λ r. ⌜ r ≡ record { how = how; ticks = ticks; state = record { servers = servers; first = first; count = count; worst = worst } } ⌝ }
 {
-    Walk { how, ticks, state }
+    Walk {
+        how,
+        ticks,
+        state: Seen {
+            servers,
+            first,
+            count,
+            worst,
+        },
+    }
 }
 
-// Boundaries are tested before the backlog, and the instant asked after both. The tick's work is done in place: no copy of the state.
+// The fields of the state stand in locals here, so that each can be lent by itself. The windows alone are changed in this function, a server
+// at a time, because an array of structs cannot be lent. Boundaries are tested before the backlog, and the instant asked after both.
 pub fn walk_to(
     plan: Plan,
-    offsets: [u16; Table::SERVERS],
+    offsets: [u32; Table::SERVERS],
     origin: u32,
     hyper: u32,
     rounds: u32,
     asked: u32,
 ) -> Walk
-    requires { ⌜ (1 ≤ plan .processors) × (plan .processors ≤ Limits.processors .to) × (origin + rounds * hyper ≤ Limits.offset .to + Limits.rounds .to * Limits.hyperperiod .to) ⌝ }
+    requires { ⌜ (plan .processors ≤ Limits.processors .to) × (origin + rounds * hyper ≤ Limits.offset .to + Limits.rounds .to * Limits.hyperperiod .to) ⌝ }
     ensures { λ r. ⌜ r ≡ Mirror.walkOf plan offsets origin hyper rounds asked ⌝ }
 {
-    let n = engine::smaller(plan.nodes, Table::SERVERS);
+    let n = numbers::smaller(plan.nodes, Table::SERVERS);
     let p = plan.processors;
-    let period = plan.period;
     let last = origin + rounds * hyper;
-    let mut st = Table::fresh(offsets);
-    let mut saved = st;
-    let mut keys = [0u32; Table::READY];
+    let fresh = Table::fresh(offsets);
+    let mut servers = fresh.servers;
+    let mut left = fresh.left;
+    let mut first = fresh.first;
+    let mut count = fresh.count;
+    let mut unfinished = fresh.unfinished;
+    let mut unlinked = fresh.unlinked;
+    let mut worst = fresh.worst;
+    let mut next = fresh.next;
+    let mut kept = Kept {
+        servers,
+        left,
+        count,
+        unfinished,
+        unlinked,
+        next,
+    };
     let mut round: u32 = 0;
-    let mut next = origin;
+    let mut boundary = origin;
+    let mut release = releasing::earliest(&next, n);
     let mut t: u32 = 0;
     while t <= last {
-        if t == next {
-            if 0 < round && engine::same_states(st, saved, n) {
-                return ended(How::Settled(round), t, st);
+        if t == boundary {
+            if 0 < round
+                && comparing::same_counts(&count, &kept.count, n)
+                && comparing::same_counts(&unfinished, &kept.unfinished, n)
+                && comparing::same_counts(&unlinked, &kept.unlinked, n)
+                && comparing::same_phases(&next, &kept.next, hyper, n)
+                && comparing::same_left(&left, &kept.left, &count, n)
+                && comparing::same_windows(servers, kept.servers, count, n)
+            {
+                return ended(How::Settled(round), t, servers, first, count, worst);
             }
             if round == rounds {
-                return ended(How::Unsettled, t, st);
+                return ended(How::Unsettled, t, servers, first, count, worst);
             }
-            saved = st;
+            let mut j: usize = 0;
+            while j < n {
+                let s = servers[j];
+                kept.servers[j] = s;
+                j += 1;
+            }
+            comparing::keep_left(&mut kept.left, &left, n);
+            kept.count = count;
+            kept.unfinished = unfinished;
+            kept.unlinked = unlinked;
+            kept.next = next;
             round += 1;
-            next = engine::next_key(next, hyper);
+            boundary = numbers::further(boundary, hyper);
         }
-        if engine::any_releases(&st.until, n) {
-            if engine::backlogged(plan, st) {
-                return ended(How::Backlog, t, st);
+        if t == release {
+            if releasing::any_full(&next, &count, &unfinished, &plan.room, t, n) {
+                return ended(How::Backlog, t, servers, first, count, worst);
             }
-            st = engine::released(plan, t, st);
+            let before = unfinished;
+            let mut i: usize = 0;
+            while i < n {
+                if releasing::releases(&next, &count, i, t) {
+                    let due = releasing::all_fewer(&before, plan.after[i], unlinked[i]);
+                    let s = servers[i];
+                    servers[i] = releasing::pushed(
+                        s,
+                        count[i],
+                        releasing::linked_now(due, unlinked[i]),
+                    );
+                    let key = releasing::new_key(t, plan.lead[i]);
+                    releasing::enter(&mut left, &mut first, &mut count, i, plan.budget[i], key);
+                    releasing::count_release(
+                        &mut unfinished,
+                        &mut unlinked,
+                        &mut next,
+                        i,
+                        due,
+                        plan.period[i],
+                    );
+                }
+                i += 1;
+            }
+            release = releasing::earliest(&next, n);
         }
         if t == asked {
-            return ended(How::Reached, t, st);
+            return ended(How::Reached, t, servers, first, count, worst);
         }
-        let until = st.until;
-        let first = st.first;
-        let count = st.count;
-        engine::work(
-            &mut st.left,
-            &mut keys,
+        let mut run = [Table::NO_KEY; Table::RUNNING];
+        let mut at = [0u16; Table::RUNNING];
+        let m = choosing::choose(
+            &mut run,
+            &mut at,
             &first,
             &count,
             &plan.level,
@@ -84,12 +158,35 @@ pub fn walk_to(
             n,
             p,
         );
-        if engine::any_done(&st.left, &st.count, n) {
-            st = engine::finished(plan, t + 1, st);
+        let d = spending::least_left(
+            &left,
+            &at,
+            m,
+            spending::ticks_to(t, release, boundary, asked),
+        );
+        spending::spend(&mut left, &at, m, d);
+        t += d;
+        let mut r: usize = 0;
+        while r < m {
+            let i = (run[r] % Table::ALL_NODES_TO) as usize;
+            if finishing::is_done(&left, &count, i) {
+                let s = servers[i];
+                let oldest = s.jobs[0];
+                let response = finishing::response_of(
+                    t,
+                    next[i],
+                    count[i],
+                    oldest.behind,
+                    plan.period[i],
+                );
+                finishing::count_finish(&mut unfinished, &mut worst, i, oldest.linked, response);
+                if 1 < count[i] {
+                    servers[i] = finishing::shifted(s);
+                }
+                finishing::leave(&mut left, &mut first, &mut count, i, plan.step[i]);
+            }
+            r += 1;
         }
-        let w = engine::waited(until, period);
-        st.until = w;
-        t += 1;
     }
-    ended(How::Unsettled, t, st)
+    ended(How::Unsettled, t, servers, first, count, worst)
 }

@@ -20,10 +20,13 @@ use Rattle.theorems.proofs.Linking.{linkOf, newLink, newLink-is, linkedCount, l
 use Rattle.theorems.proofs.Finishing.{Finished, finished-is, is-finished, finished-stays, finished-in-order, finished-number}
 use Rattle.theorems.proofs.TableBox.{beside}
 use Rattle.theorems.proofs.Window.{nodeAt}
+use Rattle.table.specs.declared.State.{State}
 use Rattle.window.specs.declared.Plan.{Plan}
-use Rattle.window.proofs.Relation.{Fits}
+use Rattle.window.specs.Entries.{unfinishedAt, unlinkedAt}
+use Rattle.window.proofs.Relation.{Fits, InStep}
 use Rattle.window.proofs.Members.{each-member}
-use Rattle.window.proofs.Counted.{linked-up, whole-rises, finished-count}
+use Rattle.window.proofs.Counted.{linked-up, whole-rises, finished-count, unfinished-is, unlinked-is}
+use Rattle.window.proofs.Places.{sink-inside}
 
 module _ (S : List Server) (cap : ℕ → ℕ) (need : ℕ → ℕ → ℕ) where
   new-was-due : (t i j : ℕ) → 1 ≤ j → newLink S cap need t i ≡ j → T (dueBy S cap need t i j)
@@ -53,7 +56,7 @@ module _ (S : List Server) (cap : ℕ → ℕ) (need : ℕ → ℕ → ℕ) wher
   due-predecessor v i j p (q ∷ ps) m d = each-member (λ (q : ℕ). finishedBy S cap need v q j) (q ∷ ps) p m d
 
   -- a job that is finished was linked, so it was due, so each predecessor's job of that number was finished
-  pub predecessor-finished : (t i j p : ℕ) → 1 ≤ j → T (any? (eqb p) ((srv S i) .predecessors)) → Finished S cap need t i j
+  predecessor-finished : (t i j p : ℕ) → 1 ≤ j → T (any? (eqb p) ((srv S i) .predecessors)) → Finished S cap need t i j
       → Finished S cap need t p j
   unfolding dueBy due
   predecessor-finished t i j p a m f =
@@ -147,7 +150,7 @@ module _ (X : Box) (plan : Plan) (fits : Fits X plan) where
   its-sink i l = leads-to (length S) i (omega arith) l
 
   -- what is finished is linked
-  pub unlinked-fewer : (t i : ℕ) → (node t i) .unlinked ≤ (node t i) .unfinished
+  unlinked-fewer : (t i : ℕ) → (node t i) .unlinked ≤ (node t i) .unfinished
   unfolding nodeState finishedCount finishedBy
   unlinked-fewer t i =
       let row = linkOf S (X .cap) (whole S) t i in
@@ -159,10 +162,22 @@ module _ (X : Box) (plan : Plan) (fits : Fits X plan) where
       )
 
   -- where no sink has too many unfinished jobs, no node has
-  pub few-unfinished : (t : ℕ) → ((z : ℕ) → T (any? (eqb z) (X .sinks)) → (node t z) .unfinished ≤ Limits.unfinished)
+  few-unfinished : (t : ℕ) → ((z : ℕ) → T (any? (eqb z) (X .sinks)) → (node t z) .unfinished ≤ Limits.unfinished)
       → (i : ℕ) → i < length S → (node t i) .unfinished ≤ Limits.unfinished
   unfolding nodeState
   few-unfinished t few i l =
       let z = its-sink i l in
       let as-many = same-releases t (srv S (z .sink)) (srv S i) (z .graph .period) (z .graph .offset) in
       omega (arith, few (z .sink) (z .is-sink), z .no-more t)
+
+  -- so in a state in step
+  pub few-in-step : (t : ℕ) (st : State) → InStep X t st → (i : ℕ) → i < length S → unfinishedAt st i ≤ Limits.unfinished
+  few-in-step t st now i h =
+      omega (
+        arith,
+        unfinished-is X t st now i h,
+        few-unfinished t (λ z m. omega (arith, unfinished-is X t st now z (sink-inside X plan fits z m), now .sinks z m)) i h,
+      )
+
+  pub unlinked-in-step : (t : ℕ) (st : State) → InStep X t st → (i : ℕ) → i < length S → unlinkedAt st i ≤ unfinishedAt st i
+  unlinked-in-step t st now i h = omega (arith, unfinished-is X t st now i h, unlinked-is X t st now i h, unlinked-fewer t i)

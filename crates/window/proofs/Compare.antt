@@ -1,10 +1,11 @@
--- The engine's comparison of two states, field by field over the windows, is equality of document 01's states. The rules list a phase for
--- each graph, by its sink; the engine compares the ticks until the next release at each place, which say the phase of the place's graph.
+-- The engine's comparison of a boundary's state with what is kept of the one before, number by number and window by window, is equality of
+-- document 01's states. The rules list a phase for each graph, by its sink; the engine compares the next release at each place, which says the
+-- phase of the place's graph.
 use mathlib.Core.Path.{_≡_, refl, sym, ap, _∙_}
 use mathlib.Core.Bool.{Bool, true, false, _&&_, cond}
 use mathlib.Core.Option.{none, some}
 use mathlib.Core.List.{List, [], _∷_, map}
-use Prim.Native.Nat.{ℕ, zero, suc, _+_, _*_, _-_, _%_, _≤_, _<_, min}
+use Prim.Native.Nat.{ℕ, zero, suc, _+_, _-_, _≤_, _<_, min}
 use native.Mathlib.Omega.{arith}
 use lib.Dec.{T, eqb, eqb→eq}
 use lib.ListN.{length}
@@ -19,17 +20,17 @@ use Rattle.schedule.proofs.Tests.{and-l, and-r, and-i, by-lt, bool-ext, eq→eq
 use Rattle.theorems.proofs.Window.{nodeAt}
 use Rattle.table.specs.declared.Pending.{Pending}
 use Rattle.table.specs.declared.State.{State}
+use Rattle.table.specs.declared.Kept.{Kept}
 use Rattle.window.specs.declared.Plan.{Plan}
-use Rattle.window.specs.Entries.{window, slotOf, serverAt, countAt, untilAt, leftAt, nodesOf}
-use Rattle.window.specs.Loops.{allBelow}
-use Rattle.window.specs.Comparing.{sameBool, samePending, sameSlots, sameServer, sameStates}
-use Rattle.window.proofs.Relation.{Fits, Slot, InStep}
+use Rattle.window.specs.Entries.{window, further, slotOf, serverAt, countAt, unfinishedAt, unlinkedAt, nextAt, leftAt, nodesOf}
+use Rattle.window.specs.Comparing.{sameBool, samePending, sameStates}
+use Rattle.window.proofs.Relation.{lastInstant, Fits, Slot, InStep}
 use Rattle.window.proofs.Members.{each-member, all-members}
-use Rattle.window.proofs.Loops.{each-below, all-below}
-use Rattle.window.proofs.Ancestors.{its-sink}
-use Rattle.window.proofs.Waiting.{until-below, phase-until}
+use Rattle.window.proofs.Instants.{release-from, next-near, phase-until}
 use Rattle.window.proofs.Places.{nodes-are, sink-inside}
+use Rattle.window.proofs.Ancestors.{its-sink}
 use Rattle.window.proofs.Viewed.{seenAt, viewed, node-viewed}
+use Rattle.window.proofs.Keeping.{Holds, SamePlace, same-place, place-same}
 
 -- two written lists agree where they are as long and agree entry by entry
 module _ {A : Type 0} (same : A → A → Bool) (f g : ℕ → A) where
@@ -86,82 +87,67 @@ same-until p x y a b h g l m e =
     let h′ : x + a ≡ 0 = rw (eq-eqb a 0 (omega arith)) at h in
     by-lt 0 b (λ z. let g′ : y + b ≡ p = rw (ne-eqb b 0 (λ e. omega arith)) at g in omega arith) (λ z. omega arith))
 
--- what the engine's test of one place says
-record SamePlace (a b : State) (i : ℕ) : Type 0 where
-  count : countAt a i ≡ countAt b i
-  until : untilAt a i ≡ untilAt b i
-  unfinished : (serverAt a i) .unfinished ≡ (serverAt b i) .unfinished
-  unlinked : (serverAt a i) .unlinked ≡ (serverAt b i) .unlinked
-  slots : T (sameSlots (serverAt a i) (serverAt b i) (a .left) (b .left) (i * window) (min (countAt a i) window))
-
--- the parts of that test
-module _ (a b : State) (i : ℕ) where
-  abbrev sameCount : Bool
-  sameCount = eqb (countAt a i) (countAt b i)
-
-  abbrev sameUntil : Bool
-  sameUntil = eqb (untilAt a i) (untilAt b i)
-
-  abbrev sameUnfinished : Bool
-  sameUnfinished = eqb ((serverAt a i) .unfinished) ((serverAt b i) .unfinished)
-
-  abbrev sameUnlinked : Bool
-  sameUnlinked = eqb ((serverAt a i) .unlinked) ((serverAt b i) .unlinked)
-
-  abbrev slotsAgree : Bool
-  slotsAgree = sameSlots (serverAt a i) (serverAt b i) (a .left) (b .left) (i * window) (min (countAt a i) window)
-
-  same-place : T (sameServer a b i) → SamePlace a b i
-  same-place t =
-      let r = and-r sameCount (sameUntil && ((sameUnfinished && sameUnlinked) && slotsAgree)) t in
-      let q = and-r sameUntil ((sameUnfinished && sameUnlinked) && slotsAgree) r in
-      let w = and-l (sameUnfinished && sameUnlinked) slotsAgree q in
-      record {
-        count = eqb→eq (countAt a i) (countAt b i) (and-l sameCount (sameUntil && ((sameUnfinished && sameUnlinked) && slotsAgree)) t);
-        until = eqb→eq (untilAt a i) (untilAt b i) (and-l sameUntil ((sameUnfinished && sameUnlinked) && slotsAgree) r);
-        unfinished = eqb→eq ((serverAt a i) .unfinished) ((serverAt b i) .unfinished) (and-l sameUnfinished sameUnlinked w);
-        unlinked = eqb→eq ((serverAt a i) .unlinked) ((serverAt b i) .unlinked) (and-r sameUnfinished sameUnlinked w);
-        slots = and-r (sameUnfinished && sameUnlinked) slotsAgree q;
-      }
-
-  place-same : SamePlace a b i → T (sameServer a b i)
-  place-same s =
-      and-i sameCount (sameUntil && ((sameUnfinished && sameUnlinked) && slotsAgree)) (eq→eqb (countAt a i) (countAt b i) (s .count))
-      (and-i sameUntil ((sameUnfinished && sameUnlinked) && slotsAgree) (eq→eqb (untilAt a i) (untilAt b i) (s .until))
-      (and-i (sameUnfinished && sameUnlinked) slotsAgree
-      (and-i sameUnfinished sameUnlinked (eq→eqb ((serverAt a i) .unfinished) ((serverAt b i) .unfinished) (s .unfinished))
-      (eq→eqb ((serverAt a i) .unlinked) ((serverAt b i) .unlinked) (s .unlinked)))
-      (s .slots)))
-
-module _ (X : Box) (plan : Plan) (fits : Fits X plan) (t u : ℕ) (a b : State) (at-t : InStep X t a) (at-u : InStep X u b)
-    (late-t : (i : ℕ) → i < length (X .servers) → (srv (X .servers) i) .offset ≤ t)
-    (late-u : (i : ℕ) → i < length (X .servers) → (srv (X .servers) i) .offset ≤ u) where
+-- two boundaries, u and `hyper` ticks later t, both after every offset; of the state at u there is what is kept
+module _ (X : Box) (plan : Plan) (fits : Fits X plan) (t u : ℕ) (apart : t ≡ u + X .hyper) (early : t ≤ lastInstant) (a b : State) (at-t : InStep X t a)
+    (at-u : InStep X u b) (late : (i : ℕ) → i < length (X .servers) → (srv (X .servers) i) .offset ≤ u) where
   abbrev S : List Server
   S = X .servers
 
   abbrev phaseAt : ℕ → ℕ → ℕ
   phaseAt t i = phase S (whole S) (used S (X .cap) t) (links S (X .cap) (whole S) t) t i
 
-  -- the ticks until the next release say the phase, and the phase says them
-  until→phase : (i : ℕ) → i < length S → untilAt a i ≡ untilAt b i → phaseAt t i ≡ phaseAt u i
-  unfolding phase
-  until→phase i h e =
-      let s = srv S i in
-      let some = (fits .at i h) .period-some in
-      let p = phase-until s some t (untilAt a i) (at-t .until i h) (late-t i h) in
-      let q = phase-until s some u (untilAt b i) (at-u .until i h) (late-u i h) in
-      let p′ : (t - s .offset) % s .period + untilAt b i ≡ cond (eqb (untilAt b i) 0) 0 (s .period) = rw e at p in
-      let same : (t - s .offset) % s .period + untilAt b i ≡ (u - s .offset) % s .period + untilAt b i = p′ ∙ sym q in
-      omega arith
+  -- at place i: the next release says the phase, and the phase says it
+  module _ (i : ℕ) (h : i < length S) where
+    abbrev s : Server
+    s = srv S i
 
-  phase→until : (i : ℕ) → i < length S → phaseAt t i ≡ phaseAt u i → untilAt a i ≡ untilAt b i
-  unfolding phase
-  phase→until i h e =
-      let s = srv S i in
-      let some = (fits .at i h) .period-some in
-      same-until (s .period) ((t - s .offset) % s .period) ((u - s .offset) % s .period) (untilAt a i) (untilAt b i)
-      (phase-until s some t (untilAt a i) (at-t .until i h) (late-t i h)) (phase-until s some u (untilAt b i) (at-u .until i h) (late-u i h))
-      (until-below s some t (untilAt a i) (at-t .until i h) (late-t i h)) (until-below s some u (untilAt b i) (at-u .until i h) (late-u i h)) e
+    abbrev some-period : 0 < s .period
+    some-period = (fits .at i h) .period-some
+
+    abbrev untilA : ℕ
+    untilA = nextAt a i - t
+
+    abbrev untilB : ℕ
+    untilB = nextAt b i - u
+
+    from-t : t + untilA ≡ nextAt a i
+    from-t = omega (arith, (at-t .row i h) .next, release-from s some-period t)
+
+    from-u : u + untilB ≡ nextAt b i
+    from-u = omega (arith, (at-u .row i h) .next, release-from s some-period u)
+
+    late-t : s .offset ≤ t
+    late-t = omega (arith, late i h)
+
+    near-t : nextAt a i < t + s .period
+    near-t = next-near s some-period t (nextAt a i) ((at-t .row i h) .next) late-t
+
+    near-u : nextAt b i < u + s .period
+    near-u = next-near s some-period u (nextAt b i) ((at-u .row i h) .next) (late i h)
+
+    -- no instant is cut off at the largest
+    uncut : further (nextAt b i) (X .hyper) ≡ nextAt b i + X .hyper
+    uncut = omega (arith, near-u, (fits .at i h) .period-most)
+
+    phase-t : phaseAt t i + untilA ≡ cond (eqb untilA 0) 0 (s .period)
+    unfolding phase
+    phase-t = phase-until s some-period t (nextAt a i) ((at-t .row i h) .next) late-t untilA from-t
+
+    phase-u : phaseAt u i + untilB ≡ cond (eqb untilB 0) 0 (s .period)
+    unfolding phase
+    phase-u = phase-until s some-period u (nextAt b i) ((at-u .row i h) .next) (late i h) untilB from-u
+
+    next→phase : nextAt a i ≡ further (nextAt b i) (X .hyper) → phaseAt t i ≡ phaseAt u i
+    next→phase e =
+        let same : untilA ≡ untilB = omega (arith, uncut, from-t, from-u) in
+        let p : phaseAt t i + untilB ≡ cond (eqb untilB 0) 0 (s .period) = rw same at phase-t in
+        omega (arith, p, phase-u)
+
+    phase→next : phaseAt t i ≡ phaseAt u i → nextAt a i ≡ further (nextAt b i) (X .hyper)
+    phase→next e =
+        let same : untilA ≡ untilB =
+        same-until (s .period) (phaseAt t i) (phaseAt u i) untilA untilB phase-t phase-u (omega (arith, near-t, from-t)) (omega (arith, near-u, from-u)) e in
+        omega (arith, uncut, from-t, from-u)
 
   -- a node has the phase of its graph's sink
   sink-phase : (v i z : ℕ) → (srv S z) .period ≡ (srv S i) .period → (srv S z) .offset ≡ (srv S i) .offset → phaseAt v z ≡ phaseAt v i
@@ -174,34 +160,38 @@ module _ (X : Box) (plan : Plan) (fits : Fits X plan) (t u : ℕ) (a b : State) 
     in-window : min (countAt a i) window ≡ countAt a i
     in-window = omega (arith, (at-t .row i h) .room)
 
-    abbrev test : ℕ → Bool
-    test d = eqb (leftAt a i d) (leftAt b i d) && samePending (slotOf (serverAt a i) d) (slotOf (serverAt b i) d)
+    abbrev lefts : ℕ → Bool
+    lefts d = eqb (leftAt a i d) (leftAt b i d)
 
-    slot-same : (d : ℕ) → d < countAt a i → d < countAt b i → Rules.samePending (seenAt a i d) (seenAt b i d) ≡ test d
+    abbrev jobs : ℕ → Bool
+    jobs d = samePending (slotOf (serverAt a i) d) (slotOf (serverAt b i) d)
+
+    slot-same : (d : ℕ) → d < countAt a i → d < countAt b i → Rules.samePending (seenAt a i d) (seenAt b i d) ≡ (lefts d && jobs d)
     slot-same d l m =
-        ap (λ (c : Bool). eqb (leftAt a i d) (leftAt b i d) && c)
+        ap (λ (c : Bool). lefts d && c)
         (same-behind (slotOf (serverAt a i) d) (slotOf (serverAt b i) d) (unlinked-behind _ _ (slotOf (serverAt a i) d) ((at-t .row i h) .slots d l))
         (unlinked-behind _ _ (slotOf (serverAt b i) d) ((at-u .row i h) .slots d m)))
 
     abbrev pendings : Bool
     pendings = alike Rules.samePending (tab (seenAt a i) 0 (countAt a i)) (tab (seenAt b i) 0 (countAt b i))
 
-    to-pending : SamePlace a b i → T pendings
+    to-pending : SamePlace a b (X .hyper) i → T pendings
     to-pending s =
         rw (← s .count)
         (all-alike Rules.samePending (seenAt a i) (seenAt b i) 0 (countAt a i)
         (λ d l.
         let e : 0 + d ≡ d = omega arith in
-        rw (e, slot-same d l (omega (arith, s .count))) (each-below test (countAt a i) d l (rw in-window at (s .slots)))))
+        let inside : d < min (countAt a i) window = rw in-window l in
+        rw (e, slot-same d l (omega (arith, s .count)))
+        (and-i (lefts d) (jobs d) (eq→eqb (leftAt a i d) (leftAt b i d) (s .left d inside)) (s .jobs d inside))))
 
-    from-pending : T pendings → (countAt a i ≡ countAt b i) × T (allBelow test (countAt a i))
-    from-pending t =
-        let n : countAt a i ≡ countAt b i = alike-length Rules.samePending (seenAt a i) (seenAt b i) 0 0 (countAt a i) (countAt b i) t in (
+    from-pending : T pendings → (countAt a i ≡ countAt b i) × ((d : ℕ) → d < countAt a i → T (lefts d && jobs d))
+    from-pending w =
+        let n : countAt a i ≡ countAt b i = alike-length Rules.samePending (seenAt a i) (seenAt b i) 0 0 (countAt a i) (countAt b i) w in (
           n,
-          all-below test (countAt a i)
-              (λ d l.
+          λ d l.
               let e : 0 + d ≡ d = omega arith in
-              rw (e, slot-same d l (omega arith)) at (alike-at Rules.samePending (seenAt a i) (seenAt b i) 0 (countAt a i) d (rw (← n) at t) l)),
+              rw (e, slot-same d l (omega arith)) at (alike-at Rules.samePending (seenAt a i) (seenAt b i) 0 (countAt a i) d (rw (← n) at w) l),
         )
 
     abbrev nodes : Bool
@@ -210,63 +200,69 @@ module _ (X : Box) (plan : Plan) (fits : Fits X plan) (t u : ℕ) (a b : State) 
     nodes-are-viewed : nodes ≡ sameNode (viewed a i) (viewed b i)
     nodes-are-viewed = rw (node-viewed X t a at-t i h, node-viewed X u b at-u i h)
 
-    to-node : SamePlace a b i → T nodes
+    abbrev unfinished? : Bool
+    unfinished? = eqb (unfinishedAt a i) (unfinishedAt b i)
+
+    abbrev unlinked? : Bool
+    unlinked? = eqb (unlinkedAt a i) (unlinkedAt b i)
+
+    to-node : SamePlace a b (X .hyper) i → T nodes
     to-node s =
         rw nodes-are-viewed
-        (and-i (sameUnfinished a b i) (sameUnlinked a b i && pendings) (eq→eqb ((serverAt a i) .unfinished) ((serverAt b i) .unfinished) (s .unfinished))
-        (and-i (sameUnlinked a b i) pendings (eq→eqb ((serverAt a i) .unlinked) ((serverAt b i) .unlinked) (s .unlinked)) (to-pending s)))
+        (and-i unfinished? (unlinked? && pendings) (eq→eqb (unfinishedAt a i) (unfinishedAt b i) (s .unfinished))
+        (and-i unlinked? pendings (eq→eqb (unlinkedAt a i) (unlinkedAt b i) (s .unlinked)) (to-pending s)))
 
-    from-node : T nodes → phaseAt t i ≡ phaseAt u i → SamePlace a b i
+    from-node : T nodes → phaseAt t i ≡ phaseAt u i → SamePlace a b (X .hyper) i
     from-node n p =
-        let w : T (sameUnfinished a b i && (sameUnlinked a b i && pendings)) = rw nodes-are-viewed at n in
-        let r = and-r (sameUnfinished a b i) (sameUnlinked a b i && pendings) w in
-        let q = from-pending (and-r (sameUnlinked a b i) pendings r) in
+        let w : T (unfinished? && (unlinked? && pendings)) = rw nodes-are-viewed at n in
+        let r = and-r unfinished? (unlinked? && pendings) w in
+        let q = from-pending (and-r unlinked? pendings r) in
         record {
           count = q .0;
-          until = phase→until i h p;
-          unfinished = eqb→eq ((serverAt a i) .unfinished) ((serverAt b i) .unfinished) (and-l (sameUnfinished a b i) (sameUnlinked a b i && pendings) w);
-          unlinked = eqb→eq ((serverAt a i) .unlinked) ((serverAt b i) .unlinked) (and-l (sameUnlinked a b i) pendings r);
-          slots = rw in-window (q .1);
+          unfinished = eqb→eq (unfinishedAt a i) (unfinishedAt b i) (and-l unfinished? (unlinked? && pendings) w);
+          unlinked = eqb→eq (unlinkedAt a i) (unlinkedAt b i) (and-l unlinked? pendings r);
+          next = phase→next i h p;
+          left = λ d l. eqb→eq (leftAt a i d) (leftAt b i d) (and-l (lefts d) (jobs d) (q .1 d (rw in-window at l)));
+          jobs = λ d l. and-r (lefts d) (jobs d) (q .1 d (rw in-window at l));
         }
 
-  abbrev samePhases : Bool
-  samePhases = alike eqb (map (phaseAt t) (X .sinks)) (map (phaseAt u) (X .sinks))
+  abbrev phasesAgree : Bool
+  phasesAgree = alike eqb (map (phaseAt t) (X .sinks)) (map (phaseAt u) (X .sinks))
 
-  abbrev sameNodes : Bool
-  sameNodes = alike sameNode (tab (nodeAt S (X .cap) (whole S) t) 0 (length S)) (tab (nodeAt S (X .cap) (whole S) u) 0 (length S))
+  abbrev nodesAgree : Bool
+  nodesAgree = alike sameNode (tab (nodeAt S (X .cap) (whole S) t) 0 (length S)) (tab (nodeAt S (X .cap) (whole S) u) 0 (length S))
 
-  places-state : T (allBelow (sameServer a b) (length S)) → T (samePhases && sameNodes)
-  places-state w =
-      let each : (i : ℕ) → i < length S → SamePlace a b i = λ i h. same-place a b i (each-below (sameServer a b) (length S) i h w) in
-      and-i samePhases sameNodes
+  places-state : ((i : ℕ) → i < length S → SamePlace a b (X .hyper) i) → T (phasesAgree && nodesAgree)
+  places-state each =
+      and-i phasesAgree nodesAgree
       (rw (alike-map (phaseAt t) (phaseAt u) (X .sinks))
       (all-members (λ (z : ℕ). eqb (phaseAt t z) (phaseAt u z)) (X .sinks)
       (λ z m.
       let h = sink-inside X plan fits z m in
-      eq→eqb (phaseAt t z) (phaseAt u z) (until→phase z h ((each z h) .until)))))
+      eq→eqb (phaseAt t z) (phaseAt u z) (next→phase z h ((each z h) .next)))))
       (all-alike sameNode (nodeAt S (X .cap) (whole S) t) (nodeAt S (X .cap) (whole S) u) 0 (length S)
       (λ i h. let e : 0 + i ≡ i = omega arith in rw e (to-node i h (each i h))))
 
-  state-places : T (samePhases && sameNodes) → T (allBelow (sameServer a b) (length S))
-  state-places w =
-      let phases = rw (alike-map (phaseAt t) (phaseAt u) (X .sinks)) at (and-l samePhases sameNodes w) in
-      all-below (sameServer a b) (length S)
-      (λ i h.
+  state-places : T (phasesAgree && nodesAgree) → (i : ℕ) → i < length S → SamePlace a b (X .hyper) i
+  state-places w i h =
+      let phases = rw (alike-map (phaseAt t) (phaseAt u) (X .sinks)) at (and-l phasesAgree nodesAgree w) in
       let z = its-sink X plan fits i h in
       let same : phaseAt t (z .sink) ≡ phaseAt u (z .sink) =
       eqb→eq (phaseAt t (z .sink)) (phaseAt u (z .sink))
       (each-member (λ (z : ℕ). eqb (phaseAt t z) (phaseAt u z)) (X .sinks) (z .sink) (z .is-sink) phases) in
       let node =
-      alike-at sameNode (nodeAt S (X .cap) (whole S) t) (nodeAt S (X .cap) (whole S) u) 0 (length S) i (and-r samePhases sameNodes w) h in
+      alike-at sameNode (nodeAt S (X .cap) (whole S) t) (nodeAt S (X .cap) (whole S) u) 0 (length S) i (and-r phasesAgree nodesAgree w) h in
       let e : 0 + i ≡ i = omega arith in
-      place-same a b i
-      (from-node i h (rw e at node)
+      from-node i h (rw e at node)
       (sym (sink-phase t i (z .sink) (z .graph .period) (z .graph .offset))
       ∙ same
-      ∙ sink-phase u i (z .sink) (z .graph .period) (z .graph .offset))))
+      ∙ sink-phase u i (z .sink) (z .graph .period) (z .graph .offset))
 
-  pub same-states : sameStates a b (nodesOf plan) ≡ sameState (stateAt X (whole S) t) (stateAt X (whole S) u)
+  pub same-states : (kept : Kept) → Holds b (nodesOf plan) kept
+      → sameStates a kept (X .hyper) (nodesOf plan) ≡ sameState (stateAt X (whole S) t) (stateAt X (whole S) u)
   unfolding stateAt state
-  same-states =
-      ap (sameStates a b) (nodes-are X plan fits)
-      ∙ bool-ext (allBelow (sameServer a b) (length S)) (samePhases && sameNodes) places-state state-places
+  same-states kept holds =
+      let n = nodes-are X plan fits in
+      bool-ext (sameStates a kept (X .hyper) (nodesOf plan)) (phasesAgree && nodesAgree)
+      (λ w. places-state (λ i h. same-place a b kept (X .hyper) (nodesOf plan) holds w i (omega arith)))
+      (λ w. place-same a b kept (X .hyper) (nodesOf plan) holds (λ i h. state-places w i (omega arith)))

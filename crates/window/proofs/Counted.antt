@@ -21,7 +21,7 @@ use Rattle.theorems.proofs.Linking.{linkOf, linked-count, links-in-order}
 use Rattle.theorems.proofs.Finishing.{finished-is, is-finished, finished-in-order}
 use Rattle.theorems.proofs.Window.{nodeAt}
 use Rattle.table.specs.declared.State.{State}
-use Rattle.window.specs.Entries.{serverAt}
+use Rattle.window.specs.Entries.{unfinishedAt, unlinkedAt}
 use Rattle.window.proofs.Relation.{InStep}
 
 -- numbers 1 to c fail, and those after them up to n pass
@@ -103,10 +103,10 @@ module _ (X : Box) (t : ℕ) (st : State) (now : InStep X t st) where
   abbrev node : ℕ → NodeState
   node i = nodeAt (X .servers) (X .cap) (whole (X .servers)) t i
 
-  pub unfinished-is : (i : ℕ) → i < length (X .servers) → (serverAt st i) .unfinished ≡ (node i) .unfinished
+  pub unfinished-is : (i : ℕ) → i < length (X .servers) → unfinishedAt st i ≡ (node i) .unfinished
   unfolding nodeState finishedCount finishedBy
   unfinished-is i h = omega (arith, (now .row i h) .unfinished, finished-count (X .servers) (X .cap) t i)
 
-  pub unlinked-is : (i : ℕ) → i < length (X .servers) → (serverAt st i) .unlinked ≡ (node i) .unlinked
+  pub unlinked-is : (i : ℕ) → i < length (X .servers) → unlinkedAt st i ≡ (node i) .unlinked
   unfolding nodeState
   unlinked-is i h = omega (arith, (now .row i h) .unlinked, linked-count (X .servers) (X .cap) (whole (X .servers)) t i)

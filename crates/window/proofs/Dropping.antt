@@ -1,183 +1,125 @@
 -- The oldest server job of one server dropped: its row has one complete server job more, the other servers' rows are as they were, and the
 -- lists keep their lengths.
-use mathlib.Core.Path.{_≡_, refl, _∙_}
-use mathlib.Core.Bool.{Bool, true, false, _&&_, cond}
+use mathlib.Core.Path.{_≡_, refl, ap, _∙_}
+use mathlib.Core.Bool.{Bool, true, false, cond}
 use Prim.Native.Nat.{ℕ, suc, _+_, _*_, _-_, _≤_, _<_, max}
 use native.Mathlib.Omega.{arith}
-use lib.Dec.{T, ltb, eqb, ltb→lt, eqb→eq}
-use lib.ListN.{length, getD, length-set}
+use lib.Dec.{ltb}
+use lib.ListN.{length, length-set}
 use lib.Seq.{getD-set-same, getD-set-other}
+use borrow.Author.Tests.{lt-ltb, le-ltb}
 use Rattle.schedule.specs.Lists.{one?}
 use Rattle.schedule.specs.Servers.{Server}
 use Rattle.schedule.specs.ServerJobs.{priorityOf}
-use Rattle.schedule.proofs.Tests.{by-lt, and-l, and-r, true-T, one-le-one}
+use Rattle.schedule.proofs.Tests.{one-le-one}
 use Rattle.theorems.proofs.LinkRows.{linkedUpTo, linked-last, linked-le}
-use Rattle.table.specs.declared.Server.{Server as Window}
+use Rattle.table.specs.declared.Pending.{Pending}
 use Rattle.table.specs.declared.State.{State}
 use Rattle.window.specs.declared.Plan.{Plan}
-use Rattle.window.specs.Entries.{places, window, noJob, noServer, slotOf, serverAt, countAt, firstAt, leftAt, stepAt}
-use Rattle.window.specs.Loops.{replaced}
-use Rattle.window.specs.Choosing.{nextKey}
-use Rattle.window.specs.Finishing.{doneAt, responseOf, shifted, counted, dropped, droppedWith}
+use Rattle.window.specs.Entries.{places, window, further, noJob, noServer, slotOf, serverAt, countAt, firstAt, unfinishedAt, worstAt, nextAt, leftAt, periodAt, stepAt}
+use Rattle.window.specs.Finishing.{responseOf, shifted, laterKey, finishedWith}
 use Rattle.window.proofs.Relation.{Slot, Row, Sized}
-use Rattle.window.proofs.Loops.{replaced-length, replaced-in}
-use Rattle.window.proofs.TickLoops.{moved-down-length, moved-down-in, moved-down-other}
-
--- two states have the same at server i
-pub record SameAt (i : ℕ) (st st′ : State) : Type 0 where
-  pub count : countAt st′ i ≡ countAt st i
-  pub first : firstAt st′ i ≡ firstAt st i
-  pub server : serverAt st′ i ≡ serverAt st i
-  pub left : (d : ℕ) → d < window → leftAt st′ i d ≡ leftAt st i d
-
-pub row-same : (s : Server) (i : ℕ) (U L : ℕ → ℕ) (N c W : ℕ) (st st′ : State) → SameAt i st st′ → Row s i U L N c W st → Row s i U L N c W st′
-row-same s i U L N c W st st′ e r =
-    record {
-      count = rw (e .count) (r .count);
-      room = rw (e .count) (r .room);
-      left = λ d h. let l : d < countAt st i = rw (e .count) at h in omega (arith, e .left d (omega (arith, r .room)), r .left d l);
-      slots = λ d h. let l : d < countAt st i = rw (e .count) at h in rw (e .server) (r .slots d l);
-      first = λ h. let l : 0 < countAt st i = rw (e .count) at h in rw (e .first) (r .first l);
-      unfinished = rw (e .server) (r .unfinished);
-      unlinked = rw (e .server) (r .unlinked);
-      worst = rw (e .server) (r .worst);
-    }
-
-pub done-same : (i : ℕ) (st st′ : State) → SameAt i st st′ → doneAt (st′ .left) (st′ .count) i ≡ doneAt (st .left) (st .count) i
-done-same i st st′ e =
-    let z : i * window + 0 ≡ i * window = omega arith in
-    let l : getD (st′ .left) (i * window) 0 ≡ getD (st .left) (i * window) 0 = rw z at (e .left 0 (omega arith)) in
-    rw (e .count, l)
-
--- the oldest server job is complete: there is one, and no budget of it is left
-pub record Done (st : State) (i : ℕ) : Type 0 where
-  pub some : 0 < countAt st i
-  pub none-left : leftAt st i 0 ≡ 0
-
-pub done-is : (st : State) (i : ℕ) → doneAt (st .left) (st .count) i ≡ true → Done st i
-done-is st i e =
-    let A = ltb 0 (countAt st i) in
-    let B = eqb (getD (st .left) (i * window) 0) 0 in
-    let t : T (A && B) = true-T (A && B) e in
-    let z : i * window + 0 ≡ i * window = omega arith in
-    record {
-      some = ltb→lt 0 (countAt st i) (and-l A B t);
-      none-left = rw z (eqb→eq (getD (st .left) (i * window) 0) 0 (and-r A B t));
-    }
-
--- what is counted of a dropped server job, linked or not
-module _ (s : Window) (r : ℕ) where
-  counted-jobs : (b : Bool) → (counted b s r) .jobs ≡ s .jobs
-  counted-jobs true = refl
-  counted-jobs false = refl
-
-  counted-unlinked : (b : Bool) → (counted b s r) .unlinked ≡ s .unlinked
-  counted-unlinked true = refl
-  counted-unlinked false = refl
-
-  counted-unfinished : (b : Bool) → (counted b s r) .unfinished ≡ s .unfinished - one? b
-  counted-unfinished true = refl
-  counted-unfinished false = omega arith
-
-  counted-worst : (b : Bool) → (counted b s r) .worst ≡ cond b (max (s .worst) r) (s .worst)
-  counted-worst true = refl
-  counted-worst false = refl
+use Rattle.window.proofs.Loops.{replaced-length, replaced-in, SameAt}
+use Rattle.window.proofs.Moving.{if-length, if-other, if-own, moved-down-length, moved-down-in, moved-down-other}
+use Rattle.window.proofs.Picking.{by-same}
 
 module _ (plan : Plan) (now : ℕ) (st : State) (i : ℕ) (sized : Sized st) (inside : i < places) where
   abbrev next : State
-  next = droppedWith plan now st i
+  next = finishedWith plan now st i
 
   abbrev n : ℕ
   n = countAt st i
 
-  abbrev gone : Window
-  gone = dropped (serverAt st i) n now (firstAt st i) (stepAt plan i)
+  abbrev oldest : Pending
+  oldest = slotOf (serverAt st i) 0
 
-  pub drop-count : countAt next i ≡ n - 1
+  abbrev response : ℕ → ℕ
+  response behind = responseOf now (nextAt st i) n behind (periodAt plan i)
+
+  abbrev moreWorst : ℕ
+  moreWorst = max (worstAt st i) (response (oldest .behind))
+
+  drop-count : countAt next i ≡ n - 1
   drop-count = getD-set-same (st .count) i (n - 1) 0 (omega (arith, sized .count))
 
-  drop-first : firstAt next i ≡ nextKey (firstAt st i) (stepAt plan i)
-  drop-first = getD-set-same (st .first) i (nextKey (firstAt st i) (stepAt plan i)) 0 (omega (arith, sized .first))
+  drop-first : firstAt next i ≡ laterKey n (firstAt st i) (stepAt plan i)
+  drop-first = getD-set-same (st .first) i (laterKey n (firstAt st i) (stepAt plan i)) 0 (omega (arith, sized .first))
 
-  drop-server : serverAt next i ≡ gone
-  drop-server = getD-set-same (st .servers) i gone noServer (omega (arith, sized .servers))
+  drop-server : serverAt next i ≡ cond (ltb 1 n) (shifted (serverAt st i)) (serverAt st i)
+  drop-server = if-own (st .servers) i (shifted (serverAt st i)) noServer (ltb 1 n) (omega (arith, sized .servers))
 
-  gone-jobs : gone .jobs ≡ replaced (λ (d : ℕ). slotOf (serverAt st i) (suc d)) ((serverAt st i) .jobs) (n - 1)
-  gone-jobs =
-      let p = slotOf (serverAt st i) 0 in
-      counted-jobs (shifted (serverAt st i) n) (responseOf now (firstAt st i) (stepAt plan i) (p .behind)) (p .linked)
+  drop-unfinished : unfinishedAt next i ≡ unfinishedAt st i - one? (oldest .linked)
+  drop-unfinished =
+      if-own (st .unfinished) i (unfinishedAt st i - 1) 0 (oldest .linked) (omega (arith, sized .unfinished)) ∙ either (oldest .linked)
+    where
+      either : (b : Bool) → cond b (unfinishedAt st i - 1) (unfinishedAt st i) ≡ unfinishedAt st i - one? b
+      either true = refl
+      either false = omega arith
+
+  drop-worst : worstAt next i ≡ cond (oldest .linked) moreWorst (worstAt st i)
+  drop-worst = if-own (st .worst) i moreWorst 0 (oldest .linked) (omega (arith, sized .worst))
 
   pub drop-elsewhere : (j : ℕ) → n ≤ window → (j ≡ i → ⊥) → SameAt j st next
   drop-elsewhere j small h =
       record {
+        server = if-other (st .servers) i (shifted (serverAt st i)) noServer (ltb 1 n) j h;
         count = getD-set-other (st .count) i j (n - 1) 0 h;
-        first = getD-set-other (st .first) i j (nextKey (firstAt st i) (stepAt plan i)) 0 h;
-        server = getD-set-other (st .servers) i j gone noServer h;
+        first = getD-set-other (st .first) i j (laterKey n (firstAt st i) (stepAt plan i)) 0 h;
+        unfinished = if-other (st .unfinished) i (unfinishedAt st i - 1) 0 (oldest .linked) j h;
+        unlinked = refl;
+        worst = if-other (st .worst) i moreWorst 0 (oldest .linked) j h;
+        next = refl;
         left = λ d l. moved-down-other (st .left) (i * window) n (j * window + d) (λ e k q. h (omega arith));
       }
 
   pub drop-sized : Sized next
   drop-sized =
       record {
-        servers = length-set (st .servers) i gone ∙ sized .servers;
+        servers = if-length (st .servers) i (shifted (serverAt st i)) noServer (ltb 1 n) ∙ sized .servers;
         jobs = λ j h.
-            by-lt j i (λ l. other j h (λ e. omega arith))
-            (λ l. by-lt i j (λ k. other j h (λ e. omega arith)) (λ k. let e : j ≡ i = omega arith in rw e own));
+            by-same j i (λ e. rw (e, drop-server) (own (ltb 1 n)))
+            (λ z. rw (if-other (st .servers) i (shifted (serverAt st i)) noServer (ltb 1 n) j z) (sized .jobs j h));
         left = moved-down-length (st .left) (i * window) n ∙ sized .left;
-        first = length-set (st .first) i (nextKey (firstAt st i) (stepAt plan i)) ∙ sized .first;
+        first = length-set (st .first) i (laterKey n (firstAt st i) (stepAt plan i)) ∙ sized .first;
         count = length-set (st .count) i (n - 1) ∙ sized .count;
-        until = sized .until;
+        unfinished = if-length (st .unfinished) i (unfinishedAt st i - 1) 0 (oldest .linked) ∙ sized .unfinished;
+        unlinked = sized .unlinked;
+        worst = if-length (st .worst) i moreWorst 0 (oldest .linked) ∙ sized .worst;
+        next = sized .next;
       }
     where
-      other : (j : ℕ) → j < places → (j ≡ i → ⊥) → length ((serverAt next j) .jobs) ≡ window
-      other j h z = rw (getD-set-other (st .servers) i j gone noServer z) (sized .jobs j h)
-
-      own : length ((serverAt next i) .jobs) ≡ window
-      own =
-          rw (drop-server, gone-jobs)
-          (replaced-length (λ (d : ℕ). slotOf (serverAt st i) (suc d)) ((serverAt st i) .jobs) (n - 1) ∙ sized .jobs i inside)
+      own : (b : Bool) → length ((cond b (shifted (serverAt st i)) (serverAt st i)) .jobs) ≡ window
+      own true =
+          replaced-length (λ (d : ℕ). slotOf (serverAt st i) (suc d)) ((serverAt st i) .jobs) (window - 1) ∙ sized .jobs i inside
+      own false = sized .jobs i inside
 
   -- the row with one complete server job more; its largest response by what the dropped one was linked to
   module _ (s : Server) (U L : ℕ → ℕ) (N c W : ℕ) (r : Row s i U L N c W st) (some : 0 < n) where
-    oldest : Slot L (c + 1) (slotOf (serverAt st i) 0)
-    oldest = let e : c + 1 + 0 ≡ c + 1 = omega arith in rw e at (r .slots 0 some)
+    abbrev isLinked : Bool
+    isLinked = ltb 0 (L (c + 1))
 
-    abbrev response : ℕ
-    response = responseOf now (firstAt st i) (stepAt plan i) (c + 1 - L (c + 1))
+    stands : Slot L (c + 1) oldest
+    stands = let e : c + 1 + 0 ≡ c + 1 = omega arith in rw e at (r .slots 0 some)
 
-    drop-worst : gone .worst ≡ cond (ltb 0 (L (c + 1))) (max W response) W
-    drop-worst =
-        let p = slotOf (serverAt st i) 0 in
-        counted-worst (shifted (serverAt st i) n) (responseOf now (firstAt st i) (stepAt plan i) (p .behind)) (p .linked)
-        ∙ rw (oldest .linked, oldest .behind, r .worst) (same (ltb 0 (L (c + 1))))
+    worst-is : worstAt next i ≡ cond isLinked (max W (response (c + 1 - L (c + 1)))) W
+    worst-is = drop-worst ∙ rw (stands .linked, stands .behind, r .worst) (same isLinked)
       where
-        same : (b : Bool)
-            → cond b (max W (responseOf now (firstAt st i) (stepAt plan i) (cond b (c + 1 - L (c + 1)) 0))) W ≡ cond b (max W response) W
+        same : (b : Bool) → cond b (max W (response (cond b (c + 1 - L (c + 1)) 0))) W ≡ cond b (max W (response (c + 1 - L (c + 1)))) W
         same true = refl
         same false = refl
 
-    drop-unfinished : gone .unfinished ≡ (serverAt st i) .unfinished - one? (ltb 0 (L (c + 1)))
-    drop-unfinished =
-        let p = slotOf (serverAt st i) 0 in
-        counted-unfinished (shifted (serverAt st i) n) (responseOf now (firstAt st i) (stepAt plan i) (p .behind)) (p .linked)
-        ∙ rw (oldest .linked)
-
-    drop-unlinked : gone .unlinked ≡ (serverAt st i) .unlinked
-    drop-unlinked =
-        let p = slotOf (serverAt st i) 0 in
-        counted-unlinked (shifted (serverAt st i) n) (responseOf now (firstAt st i) (stepAt plan i) (p .behind)) (p .linked)
-
-    drop-slot : (d : ℕ) → d < n - 1 → slotOf gone d ≡ slotOf (serverAt st i) (suc d)
+    drop-slot : (d : ℕ) → d < n - 1 → slotOf (serverAt next i) d ≡ slotOf (serverAt st i) (suc d)
     drop-slot d h =
-        rw gone-jobs
-        (replaced-in (λ (d : ℕ). slotOf (serverAt st i) (suc d)) ((serverAt st i) .jobs) (n - 1) d noJob h
-        (omega (arith, r .room, sized .jobs i inside)))
+        let more : 1 < n = omega arith in
+        rw (drop-server, lt-ltb 1 n more)
+        (replaced-in (λ (d : ℕ). slotOf (serverAt st i) (suc d)) ((serverAt st i) .jobs) (window - 1) d noJob (omega (arith, r .room))
+        (omega (arith, sized .jobs i inside)))
 
-    pub drop-row : (W′ : ℕ) → cond (ltb 0 (L (c + 1))) (max W response) W ≡ W′
-        → (1 < n → nextKey (firstAt st i) (stepAt plan i) ≡ priorityOf s (c + 2) * places + i) → Row s i U L N (c + 1) W′ next
+    pub drop-row : (W′ : ℕ) → cond isLinked (max W (response (c + 1 - L (c + 1)))) W ≡ W′
+        → (1 < n → further (firstAt st i) (stepAt plan i) ≡ priorityOf s (c + 2) * places + i) → Row s i U L N (c + 1) W′ next
     drop-row W′ e key =
-        let last : linkedUpTo L (c + 1) ≡ linkedUpTo L c + one? (ltb 0 (L (c + 1))) = let z : suc c ≡ c + 1 = omega arith in
-        rw z at (linked-last L c) in
+        let last : linkedUpTo L (c + 1) ≡ linkedUpTo L c + one? isLinked = let z : suc c ≡ c + 1 = omega arith in rw z at (linked-last L c) in
+        let fewer : unfinishedAt next i ≡ unfinishedAt st i - one? isLinked = drop-unfinished ∙ ap (λ b. unfinishedAt st i - one? b) (stands .linked) in
         record {
           count = omega (arith, drop-count, r .count);
           room = omega (arith, drop-count, r .room);
@@ -191,12 +133,16 @@ module _ (plan : Plan) (now : ℕ) (st : State) (i : ℕ) (sized : Sized st) (in
               let l : d < n - 1 = rw drop-count at h in
               let z : c + 1 + suc d ≡ c + 1 + 1 + d = omega arith in
               let old : Slot L (c + 1 + 1 + d) (slotOf (serverAt st i) (suc d)) = rw z at (r .slots (suc d) (omega arith)) in
-              rw (drop-server, drop-slot d l) old;
+              rw (drop-slot d l) old;
           first = λ h.
+              let more : 1 < n = omega (arith, drop-count) in
               let z : c + 1 + 1 ≡ c + 2 = omega arith in
-              rw (z, drop-first) (key (omega (arith, drop-count)));
-          unfinished = rw drop-server
-              (omega (arith, drop-unfinished, last, r .unfinished, r .count, linked-le L c, one-le-one (ltb 0 (L (c + 1)))));
-          unlinked = rw (drop-server, drop-unlinked) (r .unlinked);
-          worst = rw drop-server (drop-worst ∙ e);
+              rw (z, drop-first, lt-ltb 1 n more) (key more);
+          idle = λ h.
+              let alone : n ≤ 1 = omega (arith, drop-count) in
+              rw (drop-first, le-ltb 1 n alone);
+          unfinished = omega (arith, fewer, last, r .unfinished, r .count, linked-le L c, one-le-one isLinked);
+          unlinked = r .unlinked;
+          worst = worst-is ∙ e;
+          next = r .next;
         }

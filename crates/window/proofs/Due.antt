@@ -5,7 +5,7 @@ use mathlib.Core.List.{List}
 use Prim.Native.Nat.{ℕ, suc, _+_, _<_}
 use native.Mathlib.Omega.{arith}
 use lib.Dec.{T, ltb, eqb, T-not}
-use lib.ListN.{length, getD, replicate, length-replicate}
+use lib.ListN.{length}
 use Rattle.schedule.specs.Lists.{any?, all?}
 use Rattle.schedule.specs.Servers.{Server, srv, Box, whole}
 use Rattle.schedule.specs.ServerJobs.{released, releasedBefore}
@@ -18,11 +18,11 @@ use Rattle.theorems.proofs.Window.{alongside, fewer, due-by-counts}
 use Rattle.numbers.specs.Masks.{bit}
 use Rattle.table.specs.declared.State.{State}
 use Rattle.window.specs.declared.Plan.{Plan}
-use Rattle.window.specs.Entries.{places, serverAt, workAt}
-use Rattle.window.specs.Releasing.{unfinishedOf, allFewer}
+use Rattle.window.specs.Entries.{places, unfinishedAt, unlinkedAt, afterAt}
+use Rattle.window.specs.Releasing.{allFewer}
 use Rattle.window.proofs.Relation.{Fits, InStep}
 use Rattle.window.proofs.Members.{each-member, all-members}
-use Rattle.window.proofs.Loops.{each-below, all-below, replaced-in}
+use Rattle.window.proofs.Loops.{each-below, all-below}
 use Rattle.window.proofs.Counted.{whole-rises, unfinished-is, unlinked-is}
 use Rattle.window.proofs.Ancestors.{Beside, beside-is, same-releases}
 
@@ -36,25 +36,21 @@ module _ (X : Box) (plan : Plan) (fits : Fits X plan) (t : ℕ) (st : State) (no
   predecessor-beside : (p : ℕ) → T (any? (eqb p) ps) → Beside S (srv S i) p
   predecessor-beside p m = beside-is S (srv S i) p (each-member (beside S (srv S i)) ps p m ((fits .at i h) .same-graph))
 
-  listed : (p : ℕ) → p < places → getD (unfinishedOf st) p 0 ≡ (serverAt st p) .unfinished
-  listed p l =
-      replaced-in (λ (i : ℕ). (serverAt st i) .unfinished) (replicate places 0) places p 0 l (omega (arith, length-replicate {A = ℕ} places 0))
-
   -- the engine's and the rules' test of one predecessor
   test-is : (p : ℕ) → T (any? (eqb p) ps)
-      → ltb (getD (unfinishedOf st) p 0) ((serverAt st i) .unlinked) ≡ fewer S (X .cap) (whole S) t i p
+      → ltb (unfinishedAt st p) (unlinkedAt st i) ≡ fewer S (X .cap) (whole S) t i p
   test-is p m =
       let b = predecessor-beside p m in
-      rw (listed p (omega (arith, b .inside, fits .small)), unfinished-is X t st now p (b .inside), unlinked-is X t st now i h)
+      rw (unfinished-is X t st now p (b .inside), unlinked-is X t st now i h)
 
   abbrev mask : ℕ
-  mask = (workAt plan i) .after
+  mask = afterAt plan i
 
   abbrev test : ℕ → Bool
-  test p = ltb (getD (unfinishedOf st) p 0) ((serverAt st i) .unlinked)
+  test p = ltb (unfinishedAt st p) (unlinkedAt st i)
 
   -- by the mask's bits, and by the list of predecessors
-  masked-listed : T (allFewer (unfinishedOf st) mask ((serverAt st i) .unlinked)) → T (all? (fewer S (X .cap) (whole S) t i) ps)
+  masked-listed : T (allFewer (st .unfinished) mask (unlinkedAt st i)) → T (all? (fewer S (X .cap) (whole S) t i) ps)
   masked-listed a =
       all-members (fewer S (X .cap) (whole S) t i) ps
       (λ p m.
@@ -64,7 +60,7 @@ module _ (X : Box) (plan : Plan) (fits : Fits X plan) (t : ℕ) (st : State) (no
       (or-e (not (bit mask p)) (test p) (λ x. x) (λ x. x) (each-below (λ (p : ℕ). not (bit mask p) || test p) places p inside a))
       (λ x. absurd (T-not (bit mask p) x set)) (λ x. rw (test-is p m) at x))
 
-  listed-masked : T (all? (fewer S (X .cap) (whole S) t i) ps) → T (allFewer (unfinishedOf st) mask ((serverAt st i) .unlinked))
+  listed-masked : T (all? (fewer S (X .cap) (whole S) t i) ps) → T (allFewer (st .unfinished) mask (unlinkedAt st i))
   listed-masked a =
       all-below (λ (p : ℕ). not (bit mask p) || test p) places
       (λ p inside. either-way (dec (bit mask p))
@@ -74,10 +70,10 @@ module _ (X : Box) (plan : Plan) (fits : Fits X plan) (t : ℕ) (st : State) (no
       (λ e. or-l (not (bit mask p)) (test p) (rw e tt)))
 
   module _ (release : releasedBefore (srv S i) t < released (srv S i) t) where
-    due-is : allFewer (unfinishedOf st) mask ((serverAt st i) .unlinked)
+    due-is : allFewer (st .unfinished) mask (unlinkedAt st i)
         ≡ dueBy S (X .cap) (whole S) t i (linkedCount S (X .cap) (whole S) t i + 1)
     due-is =
-        bool-ext (allFewer (unfinishedOf st) mask ((serverAt st i) .unlinked)) (all? (fewer S (X .cap) (whole S) t i) ps) masked-listed listed-masked
+        bool-ext (allFewer (st .unfinished) mask (unlinkedAt st i)) (all? (fewer S (X .cap) (whole S) t i) ps) masked-listed listed-masked
         ∙ sym
         (due-by-counts S (X .cap) (whole S) (whole-rises S) t i release
         (all-members (alongside S (X .cap) (whole S) t i) ps
@@ -87,7 +83,7 @@ module _ (X : Box) (plan : Plan) (fits : Fits X plan) (t : ℕ) (st : State) (no
 
     -- what the server job released at t is linked to
     pub new-link : linkOf S (X .cap) (whole S) (suc t) i (suc (releasedBefore (srv S i) t))
-        ≡ cond (allFewer (unfinishedOf st) mask ((serverAt st i) .unlinked))
+        ≡ cond (allFewer (st .unfinished) mask (unlinkedAt st i))
         (linkedUpTo (linkOf S (X .cap) (whole S) t i) (releasedBefore (srv S i) t) + 1) 0
     new-link =
         links-new S (X .cap) (whole S) t i (suc (releasedBefore (srv S i) t)) h (omega arith) release

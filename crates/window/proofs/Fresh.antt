@@ -1,4 +1,4 @@
--- The fresh state, whose servers wait for their offsets, is in step with the schedule at instant 0.
+-- The fresh state, whose servers release first at their offsets, is in step with the schedule at instant 0.
 use mathlib.Core.Path.{_≡_, refl}
 use mathlib.Core.List.{List}
 use Prim.Native.Nat.{ℕ, _<_}
@@ -11,12 +11,12 @@ use Rattle.schedule.specs.Walk.{figure}
 use Rattle.theorems.proofs.InTurn.{usedBy, completed, completed-le}
 use Rattle.theorems.proofs.LinkRows.{linked-zero}
 use Rattle.theorems.proofs.Linking.{linkOf}
-use Rattle.table.specs.Fresh.{noJob, emptyServer, slots, freshState}
+use Rattle.table.specs.Fresh.{noJob, emptyServer, noKey, freshState}
 use Rattle.table.specs.declared.State.{State}
 use Rattle.window.specs.declared.Plan.{Plan}
-use Rattle.window.specs.Entries.{places, window, noServer, serverAt, countAt}
+use Rattle.window.specs.Entries.{places, window, slots, noServer, serverAt, countAt, unfinishedAt}
 use Rattle.window.proofs.Relation.{Fits, Row, Sized, InStep}
-use Rattle.window.proofs.Waiting.{release-next}
+use Rattle.window.proofs.Instants.{release-next}
 use Rattle.window.proofs.Places.{sink-inside}
 
 none-before : (s : Server) → releasedBefore s 0 ≡ 0
@@ -38,8 +38,9 @@ module _ (X : Box) (plan : Plan) (fits : Fits X plan) (offsets : List ℕ) (all 
   fresh-server : (i : ℕ) → i < places → serverAt st i ≡ emptyServer
   fresh-server i h = getD-replicate places i emptyServer noServer h
 
-  fresh-count : (i : ℕ) → i < places → countAt st i ≡ 0
-  fresh-count i h = getD-replicate places i 0 0 h
+  -- each of the counts and of the largest responses
+  no-number : (i : ℕ) → i < places → countAt st i ≡ 0
+  no-number i h = getD-replicate places i 0 0 h
 
   fresh-sized : Sized st
   fresh-sized =
@@ -47,9 +48,12 @@ module _ (X : Box) (plan : Plan) (fits : Fits X plan) (offsets : List ℕ) (all 
         servers = length-replicate places emptyServer;
         jobs = λ i h. rw (fresh-server i h) (length-replicate window noJob);
         left = length-replicate {A = ℕ} slots 0;
-        first = length-replicate {A = ℕ} places 0;
+        first = length-replicate {A = ℕ} places noKey;
         count = length-replicate {A = ℕ} places 0;
-        until = all;
+        unfinished = length-replicate {A = ℕ} places 0;
+        unlinked = length-replicate {A = ℕ} places 0;
+        worst = length-replicate {A = ℕ} places 0;
+        next = all;
       }
 
   fresh-row : (i : ℕ) → i < length S
@@ -59,7 +63,7 @@ module _ (X : Box) (plan : Plan) (fits : Fits X plan) (offsets : List ℕ) (all 
       let inside : i < places = omega (arith, fits .small) in
       let n = none-before (srv S i) in
       let c : completed S (X .cap) 0 i ≡ 0 = omega (arith, completed-le S (X .cap) 0 i) in
-      let e = fresh-count i inside in
+      let e = no-number i inside in
       let links = linkOf S (X .cap) (whole S) 0 i in
       rw (n, c, no-figure X (whole S) i)
       (record {
@@ -68,17 +72,20 @@ module _ (X : Box) (plan : Plan) (fits : Fits X plan) (offsets : List ℕ) (all 
         left = λ d l. absurd (let x : ⊥ = omega arith in x);
         slots = λ d l. absurd (let x : ⊥ = omega arith in x);
         first = λ l. absurd (let x : ⊥ = omega arith in x);
-        unfinished = rw (fresh-server i inside) (omega (arith, linked-zero links));
-        unlinked = rw (fresh-server i inside) (omega (arith, linked-zero links));
-        worst = rw (fresh-server i inside);
+        idle = λ _. getD-replicate places i noKey 0 inside;
+        unfinished = omega (arith, linked-zero links);
+        unlinked = omega (arith, linked-zero links);
+        worst = e;
+        next = omega (arith, each i h, release-next (srv S i) 0, zero-mul ((srv S i) .period));
       })
 
   pub fresh-in-step : InStep X 0 st
   fresh-in-step =
       record {
         sized = fresh-sized;
-        until = λ i h. rw (none-before (srv S i)) (omega (arith, each i h, release-next (srv S i) 0, zero-mul ((srv S i) .period)));
         row = fresh-row;
         sinks = λ i m.
-            let h = sink-inside X plan fits i m in rw (fresh-server i (omega (arith, fits .small))) (omega arith);
+            let h = sink-inside X plan fits i m in
+            let e : unfinishedAt st i ≡ 0 = no-number i (omega (arith, fits .small)) in
+            omega arith;
       }

@@ -11,7 +11,7 @@ use lib.ListN.{length, getD, length-set}
 use lib.Seq.{getD-set-same, getD-set-other}
 use Rattle.schedule.proofs.Tests.{and-l, and-r, and-i, or-l, or-r, or-e, either-way, by-lt}
 use Rattle.table.specs.declared.State.{State}
-use Rattle.window.specs.Entries.{window, serverAt, countAt, firstAt, untilAt, leftAt}
+use Rattle.window.specs.Entries.{window, serverAt, countAt, firstAt, unfinishedAt, unlinkedAt, worstAt, nextAt, leftAt}
 use Rattle.window.specs.Loops.{someBelow, allBelow, replaced, inTurn}
 use Rattle.window.proofs.Relation.{Sized}
 
@@ -65,19 +65,35 @@ pub record SameAt (i : ℕ) (a b : State) : Type 0 where
   pub server : serverAt b i ≡ serverAt a i
   pub count : countAt b i ≡ countAt a i
   pub first : firstAt b i ≡ firstAt a i
-  pub until : untilAt b i ≡ untilAt a i
+  pub unfinished : unfinishedAt b i ≡ unfinishedAt a i
+  pub unlinked : unlinkedAt b i ≡ unlinkedAt a i
+  pub worst : worstAt b i ≡ worstAt a i
+  pub next : nextAt b i ≡ nextAt a i
   pub left : (d : ℕ) → d < window → leftAt b i d ≡ leftAt a i d
 
 pub same-at-self : (i : ℕ) (a : State) → SameAt i a a
-same-at-self i a = record { server = refl; count = refl; first = refl; until = refl; left = λ d h. refl }
+same-at-self i a =
+    record {
+      server = refl;
+      count = refl;
+      first = refl;
+      unfinished = refl;
+      unlinked = refl;
+      worst = refl;
+      next = refl;
+      left = λ d h. refl;
+    }
 
-pub same-at-then : {i : ℕ} {a b c : State} → SameAt i a b → SameAt i b c → SameAt i a c
+same-at-then : {i : ℕ} {a b c : State} → SameAt i a b → SameAt i b c → SameAt i a c
 same-at-then r s =
     record {
       server = s .server ∙ r .server;
       count = s .count ∙ r .count;
       first = s .first ∙ r .first;
-      until = s .until ∙ r .until;
+      unfinished = s .unfinished ∙ r .unfinished;
+      unlinked = s .unlinked ∙ r .unlinked;
+      worst = s .worst ∙ r .worst;
+      next = s .next ∙ r .next;
       left = λ d h. s .left d h ∙ r .left d h;
     }
 

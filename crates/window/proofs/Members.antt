@@ -1,10 +1,18 @@
 -- A number that stands in a list, as the test `any? (eqb i)`: what a test over the list says of it, and the other way round.
 use mathlib.Core.Bool.{Bool}
 use mathlib.Core.List.{List, [], _∷_}
-use Prim.Native.Nat.{ℕ}
+use Prim.Native.Nat.{ℕ, zero, suc, _<_}
+use native.Mathlib.Nat.{not-suc-le-zero}
+use native.Mathlib.Omega.{arith}
 use lib.Dec.{T, eqb, eqb→eq, eqb-refl}
+use lib.ListN.{length, getD}
 use Rattle.schedule.specs.Lists.{any?, all?}
 use Rattle.schedule.proofs.Tests.{and-l, and-r, and-i, or-l, or-r, or-e, either-way}
+
+pub entry-member : (l : List ℕ) (g : ℕ) → g < length l → T (any? (eqb (getD l g 0)) l)
+entry-member [] g h = absurd (not-suc-le-zero h)
+entry-member (x ∷ xs) zero h = or-l (eqb x x) (any? (eqb x) xs) (eqb-refl x)
+entry-member (x ∷ xs) (suc g) h = or-r (eqb (getD xs g 0) x) (any? (eqb (getD xs g 0)) xs) (entry-member xs g (omega arith))
 
 module _ (p : ℕ → Bool) where
   pub each-member : (l : List ℕ) (i : ℕ) → T (any? (eqb i) l) → T (all? p l) → T (p i)

@@ -3,17 +3,16 @@ use mathlib.Core.Path.{_≡_}
 use Prim.Native.Nat.{ℕ, _+_, _<_}
 use native.Mathlib.Omega.{arith}
 use lib.Dec.{T, ltb, eqb, ltb→lt}
-use lib.ListN.{length}
+use lib.ListN.{length, getD}
 use Rattle.schedule.specs.Lists.{one?, any?}
 use Rattle.schedule.specs.Servers.{srv, Box}
 use Rattle.schedule.specs.ServerJobs.{released, releasedBefore}
 use Rattle.table.specs.declared.State.{State}
 use Rattle.window.specs.declared.Plan.{Plan}
-use Rattle.window.specs.Entries.{untilAt, nodesOf}
-use Rattle.window.specs.Releasing.{releases}
+use Rattle.window.specs.Entries.{nextAt, nodesOf}
 use Rattle.window.proofs.Relation.{Fits, InStep}
-use Rattle.window.proofs.Members.{each-member}
-use Rattle.window.proofs.Waiting.{releases-now}
+use Rattle.window.proofs.Members.{each-member, entry-member}
+use Rattle.window.proofs.Instants.{releases-now}
 
 module _ (X : Box) (plan : Plan) (fits : Fits X plan) where
   pub nodes-are : nodesOf plan ≡ length (X .servers)
@@ -23,6 +22,9 @@ module _ (X : Box) (plan : Plan) (fits : Fits X plan) where
   sink-inside i m =
       ltb→lt i (length (X .servers)) (each-member (λ (i : ℕ). ltb i (length (X .servers))) (X .sinks) i m (fits .sinks-in))
 
+  pub sink-at : (g : ℕ) → g < length (X .sinks) → getD (X .sinks) g 0 < length (X .servers)
+  sink-at g h = sink-inside (getD (X .sinks) g 0) (entry-member (X .sinks) g h)
+
   pub releases-are : (t : ℕ) (st : State) → InStep X t st → (i : ℕ) → i < length (X .servers)
-      → released (srv (X .servers) i) t ≡ releasedBefore (srv (X .servers) i) t + one? (releases (st .until) i)
-  releases-are t st now i h = releases-now (srv (X .servers) i) ((fits .at i h) .period-some) t (untilAt st i) (now .until i h)
+      → released (srv (X .servers) i) t ≡ releasedBefore (srv (X .servers) i) t + one? (eqb (nextAt st i) t)
+  releases-are t st now i h = releases-now (srv (X .servers) i) ((fits .at i h) .period-some) t (nextAt st i) ((now .row i h) .next)

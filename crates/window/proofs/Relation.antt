@@ -4,9 +4,9 @@ use mathlib.Core.Path.{_≡_}
 use mathlib.Core.Bool.{cond}
 use mathlib.Core.List.{List}
 use mathlib.Core.Logic.{_⊎_}
-use Prim.Native.Nat.{ℕ, suc, _+_, _*_, _-_, _≤_, _<_}
+use Prim.Native.Nat.{ℕ, suc, _+_, _*_, _-_, _^_, _≤_, _<_}
 use lib.Dec.{T, ltb, eqb}
-use lib.ListN.{length}
+use lib.ListN.{length, getD}
 use Rattle.schedule.specs.Limits as Limits
 use Rattle.schedule.specs.Lists.{any?, all?}
 use Rattle.schedule.specs.Servers.{Server, srv, Box, whole}
@@ -20,11 +20,14 @@ use Rattle.numbers.specs.Masks.{bit}
 use Rattle.table.specs.declared.Pending.{Pending}
 use Rattle.table.specs.declared.State.{State}
 use Rattle.window.specs.declared.Plan.{Plan}
-use Rattle.window.specs.Entries.{places, window, slotOf, serverAt, countAt, firstAt, untilAt, leftAt, workAt, levelAt, periodAt, stepAt}
+use Rattle.window.specs.Entries.{places, window, slots, lastKey, slotOf, serverAt, countAt, firstAt, unfinishedAt, unlinkedAt, worstAt, nextAt, leftAt, budgetAt, afterAt, levelAt, periodAt, stepAt, leadAt, roomAt}
 
--- an instant far below those at which a key would no longer fit
+-- an instant and a point far below those at which a key would no longer fit
 abbrev pub lastInstant : ℕ
 lastInstant = Limits.offset .to + Limits.rounds .to * Limits.hyperperiod .to
+
+abbrev pub lastPoint : ℕ
+lastPoint = Limits.period .to
 
 module _ (X : Box) (plan : Plan) where
   abbrev pub S : List Server
@@ -32,14 +35,15 @@ module _ (X : Box) (plan : Plan) where
 
   -- place i of the plan is server i of the rules
   pub record Planned (i : ℕ) : Type 0 where
-    pub budget : (workAt plan i) .budget ≡ (srv S i) .budget
-    pub sink : (workAt plan i) .sink ≡ any? (eqb i) (X .sinks)
-    pub after : (p : ℕ) → p < places → bit ((workAt plan i) .after) p ≡ any? (eqb p) ((srv S i) .predecessors)
+    pub budget : budgetAt plan i ≡ (srv S i) .budget
+    pub room : roomAt plan i ≡ cond (any? (eqb i) (X .sinks)) Limits.unfinished (2 ^ 8 - 1)
+    pub after : (p : ℕ) → p < places → bit (afterAt plan i) p ≡ any? (eqb p) ((srv S i) .predecessors)
     pub level : levelAt plan i ≡ (srv S i) .level
     pub period : periodAt plan i ≡ (srv S i) .period
     pub step : stepAt plan i ≡ (srv S i) .period * places
+    pub lead : leadAt plan i ≡ (srv S i) .point * places + i
     -- what the rules' box has at i
-    pub point : (srv S i) .point ≡ (srv S i) .period
+    pub point-most : (srv S i) .point ≤ lastPoint
     pub budget-some : 0 < (srv S i) .budget
     pub level-some : 1 ≤ (srv S i) .level
     pub level-most : (srv S i) .level ≤ Limits.level .to
@@ -49,14 +53,13 @@ module _ (X : Box) (plan : Plan) where
     -- a sink, or a predecessor of a later node of the same graph: so each node leads to its graph's sink
     pub leads : T (any? (eqb i) (X .sinks)) ⊎ ((n : ℕ) × (i < n) × (n < length S) × T (any? (eqb i) ((srv S n) .predecessors)))
     -- the numbers that a row shows
-    pub graph : (workAt plan i) .graph ≡ (srv S i) .graph
-    pub node : (workAt plan i) .node ≡ (srv S i) .node
+    pub graph : getD (plan .graph) i 0 ≡ (srv S i) .graph
+    pub node : getD (plan .node) i 0 ≡ (srv S i) .node
 
   pub record Fits : Type 0 where
     pub nodes : plan .nodes ≡ length S
     pub small : length S ≤ places
     pub cap : (t : ℕ) → (X .cap) t ≡ plan .processors
-    pub processors-some : 1 ≤ plan .processors
     pub processors-most : plan .processors ≤ Limits.processors .to
     pub sinks-in : T (all? (λ (i : ℕ). ltb i (length S)) (X .sinks))
     pub at : (i : ℕ) → i < length S → Planned i
@@ -74,38 +77,37 @@ pub record Row (s : Server) (i : ℕ) (U L : ℕ → ℕ) (N c W : ℕ) (st : St
   pub left : (d : ℕ) → d < countAt st i → leftAt st i d + U (c + 1 + d) ≡ s .budget
   pub slots : (d : ℕ) → d < countAt st i → Slot L (c + 1 + d) (slotOf (serverAt st i) d)
   pub first : 0 < countAt st i → firstAt st i ≡ priorityOf s (c + 1) * places + i
-  pub unfinished : (serverAt st i) .unfinished + linkedUpTo L c ≡ N
-  pub unlinked : (serverAt st i) .unlinked + linkedUpTo L N ≡ N
-  pub worst : (serverAt st i) .worst ≡ W
+  pub idle : countAt st i ≡ 0 → firstAt st i ≡ lastKey
+  pub unfinished : unfinishedAt st i + linkedUpTo L c ≡ N
+  pub unlinked : unlinkedAt st i + linkedUpTo L N ≡ N
+  pub worst : worstAt st i ≡ W
+  pub next : nextAt st i ≡ releaseOf s (suc N)
 
 -- the lists of a state have their lengths
 pub record Sized (st : State) : Type 0 where
   pub servers : length (st .servers) ≡ places
   pub jobs : (i : ℕ) → i < places → length ((serverAt st i) .jobs) ≡ window
-  pub left : length (st .left) ≡ places * window
+  pub left : length (st .left) ≡ Rattle.window.specs.Entries.slots
   pub first : length (st .first) ≡ places
   pub count : length (st .count) ≡ places
-  pub until : length (st .until) ≡ places
+  pub unfinished : length (st .unfinished) ≡ places
+  pub unlinked : length (st .unlinked) ≡ places
+  pub worst : length (st .worst) ≡ places
+  pub next : length (st .next) ≡ places
 
 module _ (X : Box) (t : ℕ) (st : State) where
-  -- the ticks until the next release of server i at or after t
-  abbrev pub NextRelease : ℕ → Type 0
-  NextRelease i = t + untilAt st i ≡ releaseOf (srv (X .servers) i) (suc (releasedBefore (srv (X .servers) i) t))
-
   -- THE RELATION at t: after the ticks before it, before its releases
   pub record InStep : Type 0 where
     pub sized : Sized st
-    pub until : (i : ℕ) → i < length (X .servers) → NextRelease i
     pub row : (i : ℕ) → i < length (X .servers)
         → Row (srv (X .servers) i) i (usedBy (X .servers) (X .cap) t i) (linkOf (X .servers) (X .cap) (whole (X .servers)) t i)
         (releasedBefore (srv (X .servers) i) t) (completed (X .servers) (X .cap) t i) (figure X (whole (X .servers)) i t) st
-    pub sinks : (i : ℕ) → T (any? (eqb i) (X .sinks)) → (serverAt st i) .unfinished ≤ Limits.unfinished
+    pub sinks : (i : ℕ) → T (any? (eqb i) (X .sinks)) → unfinishedAt st i ≤ Limits.unfinished
 
-  -- after the releases and links of t, before its tick; `until` is as it was before them
+  -- after the releases and links of t, before its tick
   pub record Released : Type 0 where
     pub sized : Sized st
-    pub until : (i : ℕ) → i < length (X .servers) → NextRelease i
     pub row : (i : ℕ) → i < length (X .servers)
         → Row (srv (X .servers) i) i (usedBy (X .servers) (X .cap) t i) (linkOf (X .servers) (X .cap) (whole (X .servers)) (suc t) i)
         (released (srv (X .servers) i) t) (completed (X .servers) (X .cap) t i) (figure X (whole (X .servers)) i t) st
-    pub sinks : (i : ℕ) → T (any? (eqb i) (X .sinks)) → (serverAt st i) .unfinished ≤ Limits.unfinished
+    pub sinks : (i : ℕ) → T (any? (eqb i) (X .sinks)) → unfinishedAt st i ≤ Limits.unfinished

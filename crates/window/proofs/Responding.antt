@@ -1,37 +1,39 @@
 -- The response that is taken of a dropped server job is that of the job linked to it, and the largest of them is the figure: over the
--- server jobs complete at t it is the figure at t, over those complete at t + 1 the figure at t + 1, and each between adds its own.
+-- server jobs complete at a span's start it is the figure there, over those complete at its end the figure at its end, and each between adds
+-- its own.
 use mathlib.Core.Path.{_≡_, refl, sym, ap, _∙_}
 use mathlib.Core.Bool.{Bool, true, false, _&&_, cond}
 use mathlib.Core.List.{List}
-use Prim.Native.Nat.{ℕ, zero, suc, _+_, _*_, _-_, _/_, _≤_, _<_, max}
-use native.Mathlib.Nat.{add-mul, mul-comm}
+use Prim.Native.Nat.{ℕ, zero, suc, _+_, _*_, _-_, _≤_, _<_, max}
+use native.Mathlib.Nat.{add-mul}
 use native.Mathlib.Omega.{arith}
 use lib.Dec.{leb, ltb}
+use lib.ListN.{length}
 use borrow.Author.Tests.{lt-ltb, le-ltb, le-leb, lt-leb}
 use Rattle.schedule.specs.Lists.{largest, numbers, upTo}
 use Rattle.schedule.specs.Servers.{Server, srv, Box, whole}
-use Rattle.schedule.specs.ServerJobs.{releaseOf, released, releasedBefore, priorityOf, used}
+use Rattle.schedule.specs.ServerJobs.{releaseOf, released, releasedBefore, used}
 use Rattle.schedule.specs.Links.{links}
 use Rattle.schedule.specs.Walk.{responseAt, finishing, figure}
-use Rattle.theorems.proofs.InTurn.{usedBy, completed, completed-le, is-complete, not-complete}
+use Rattle.schedule.proofs.Tests.{by-lt}
+use Rattle.theorems.proofs.InTurn.{budgetOf, usedBy, used-out, completed, completed-le, is-complete, not-complete}
 use Rattle.theorems.proofs.Linking.{linkOf}
-use Rattle.window.specs.Entries.{places, lastKey}
+use Rattle.theorems.proofs.QuietSpans.{Quiet}
+use Rattle.theorems.proofs.QuietWalk.{links-within, whole-ahead, figure-after}
+use Rattle.window.specs.Entries.{lastKey}
 use Rattle.window.specs.Finishing.{responseOf}
-use Rattle.window.proofs.Spending.{left-over}
+use Rattle.window.proofs.Instants.{release-next}
 
--- the server job's key is one period past its release, and its linked job lies k - j numbers behind: what is left is the release of j
-pub response-by-key : (s : Server) (i k j now : ℕ) → i < places → s .point ≡ s .period → 1 ≤ j → j ≤ k → now ≤ lastKey
-    → responseOf now (priorityOf s k * places + i) (s .period * places) (k - j) ≡ now - releaseOf s j
-unfolding priorityOf releaseOf
-response-by-key s i k j now h e a b small =
+-- the oldest of n pending server jobs is number c + 1 of N, and its linked job j lies so many numbers behind: what is left is the release of j
+pub response-by-next : (s : Server) (N c j n now : ℕ) → n + c ≡ N → 1 ≤ j → j ≤ c + 1 → now ≤ lastKey
+    → responseOf now (releaseOf s (suc N)) n (c + 1 - j) (s .period) ≡ now - releaseOf s j
+response-by-next s N c j n now e a b small =
     let p = s .period in
-    let deadline = s .offset + (k - 1) * p + s .point in
-    let key : (deadline * places + i) / places ≡ deadline = omega arith in
-    let period : p * places / places ≡ p = omega arith in
-    let split : k - 1 ≡ (j - 1) + (k - j) = omega arith in
-    let far : (k - 1) * p ≡ (j - 1) * p + (k - j) * p = ap (λ n. n * p) split ∙ add-mul (j - 1) (k - j) p in
-    let back : p * (1 + (k - j)) ≡ p + (k - j) * p = mul-comm p (1 + (k - j)) ∙ add-mul 1 (k - j) p ∙ omega arith in
-    rw (key, period, back) (omega arith)
+    let z : j ≡ suc (j - 1) = omega arith in
+    let own : releaseOf s j ≡ s .offset + (j - 1) * p = ap (releaseOf s) z ∙ release-next s (j - 1) in
+    let split : N ≡ (j - 1) + (n + (c + 1 - j)) = omega arith in
+    let far : N * p ≡ (j - 1) * p + (n + (c + 1 - j)) * p = ap (λ m. m * p) split ∙ add-mul (j - 1) (n + (c + 1 - j)) p in
+    rw (release-next s N, own) (omega arith)
 
 module _ (f : ℕ → ℕ) where
   largest-last : (a n : ℕ) → largest f (numbers a (suc n)) ≡ max (largest f (numbers a n)) (f (a + n))
@@ -57,78 +59,120 @@ module _ (f : ℕ → ℕ) where
         h (c + d + 1) (omega arith) (omega arith),
       ))
 
-module _ (X : Box) (t i : ℕ) where
+and-false : (b : Bool) → (b && false) ≡ false
+and-false true = refl
+and-false false = refl
+
+-- a server job after the complete ones has budget left
+pub left-over : (S : List Server) (cap : ℕ → ℕ) (t i k : ℕ) → 0 < budgetOf S i → completed S cap t i < k → usedBy S cap t i k < budgetOf S i
+left-over S cap t i k b l =
+    by-lt (releasedBefore (srv S i) t) k (λ z. omega (arith, used-out S cap t i k z)) (λ z. not-complete S cap t i k (omega arith) z l)
+
+module _ (X : Box) (t d i : ℕ) where
+  -- of the job linked to server job k of node i, where it finishes in a span from t on that ends at v
+  abbrev responseTo : ℕ → ℕ → ℕ
+  responseTo v k =
+      responseAt X (whole (X .servers)) (used (X .servers) (X .cap) t) (used (X .servers) (X .cap) v)
+      (links (X .servers) (X .cap) (whole (X .servers)) (suc t)) v i k
+
+  -- the largest response so far, of the server jobs up to c
+  pub worstUpTo : ℕ → ℕ
+  worstUpTo c = max (largest (λ (k : ℕ). responseTo (t + d) k) (upTo c)) (figure X (whole (X .servers)) i t)
+
+module _ (X : Box) (t d : ℕ) (quiet : Quiet (X .servers) (X .cap) t d) (some : 1 ≤ d) where
   abbrev S : List Server
   S = X .servers
 
-  abbrev budget : ℕ
-  budget = (srv S i) .budget
+  abbrev last : ℕ
+  last = d - 1
 
-  abbrev ticks : ℕ → ℕ → ℕ
-  ticks v k = usedBy S (X .cap) v i k
+  end-is : t + d ≡ suc (t + last)
+  end-is = omega arith
 
-  abbrev jobOf : ℕ → ℕ
-  jobOf k = linkOf S (X .cap) (whole S) (suc t) i k
+  -- nothing is released or linked after the span's start
+  pub released-at-end : (i : ℕ) → i < length S → releasedBefore (srv S i) (t + d) ≡ released (srv S i) t
+  unfolding releasedBefore
+  released-at-end i h = rw end-is (quiet .none-released i last h (omega arith))
 
-  abbrev response : ℕ → ℕ
-  response k = responseAt X (whole S) (used S (X .cap) t) (used S (X .cap) (suc t)) (links S (X .cap) (whole S) (suc t)) (suc t) i k
+  pub links-at-end : links S (X .cap) (whole S) (t + d) ≡ links S (X .cap) (whole S) (suc t)
+  links-at-end = rw end-is (links-within S (X .cap) (whole S) t d quiet last (omega arith))
 
-  -- the largest response so far, of the server jobs up to c
-  unfoldable pub worstUpTo : ℕ → ℕ
-  worstUpTo c = max (largest response (upTo c)) (figure X (whole S) i t)
+  module _ (i : ℕ) (inside : i < length S) (budget-some : 0 < budgetOf S i) where
+    abbrev budget : ℕ
+    budget = budgetOf S i
 
-  and-false : (b : Bool) → (b && false) ≡ false
-  and-false true = refl
-  and-false false = refl
+    abbrev ticks : ℕ → ℕ → ℕ
+    ticks v k = usedBy S (X .cap) v i k
 
-  complete-before : (k : ℕ) → budget ≤ ticks t k → response k ≡ 0
-  unfolding responseAt whole
-  complete-before k h = rw (le-ltb (ticks t k) budget h, and-false (leb budget (ticks (suc t) k)), and-false (ltb 0 (jobOf k)))
+    abbrev jobOf : ℕ → ℕ
+    jobOf k = linkOf S (X .cap) (whole S) (suc t) i k
 
-  not-complete-yet : (k : ℕ) → ticks (suc t) k < budget → response k ≡ 0
-  unfolding responseAt whole
-  not-complete-yet k h = rw (lt-leb budget (ticks (suc t) k) h, and-false (ltb 0 (jobOf k)))
+    abbrev response : ℕ → ℕ
+    response k = responseTo X t d i (t + d) k
 
-  complete-now : (k : ℕ) → budget ≤ ticks (suc t) k → ticks t k < budget
-      → response k ≡ cond (ltb 0 (jobOf k)) (suc t - releaseOf (srv S i) (jobOf k)) 0
-  unfolding responseAt whole
-  complete-now k h l = rw (le-leb budget (ticks (suc t) k) h, lt-ltb (ticks t k) budget l) (same (ltb 0 (jobOf k)))
-    where
-      same : (b : Bool) → cond (b && true) (suc t - releaseOf (srv S i) (jobOf k)) 0 ≡ cond b (suc t - releaseOf (srv S i) (jobOf k)) 0
-      same true = refl
-      same false = refl
+    abbrev worst : ℕ → ℕ
+    worst c = worstUpTo X t d i c
 
-  pub worst-at-first : worstUpTo (completed S (X .cap) t i) ≡ figure X (whole S) i t
-  unfolding worstUpTo
-  worst-at-first =
-      let c = completed S (X .cap) t i in
-      let e : 0 + c ≡ c = omega arith in
-      let quiet : largest response (upTo c) ≡ 0 =
-      rw e at (largest-quiet response 0 c (λ k a b. complete-before k (is-complete S (X .cap) t i k a (omega arith)))) in
-      omega arith
+    complete-before : (k : ℕ) → budget ≤ ticks t k → response k ≡ 0
+    unfolding responseAt whole
+    complete-before k h = rw (le-ltb (ticks t k) budget h, and-false (leb budget (ticks (t + d) k)), and-false (ltb 0 (jobOf k)))
 
-  pub worst-at-last : worstUpTo (completed S (X .cap) (suc t) i) ≡ figure X (whole S) i (suc t)
-  unfolding worstUpTo figure finishing releasedBefore
-  worst-at-last =
-      let c = completed S (X .cap) (suc t) i in
-      let n = released (srv S i) t in
-      let e : c + (n - c) ≡ n = omega (arith, completed-le S (X .cap) (suc t) i) in
-      let quiet : largest response (upTo n) ≡ largest response (upTo c) =
-      rw e at
-      (largest-quiet response c (n - c)
-      (λ k a b. not-complete-yet k (not-complete S (X .cap) (suc t) i k (omega arith) (omega (arith, completed-le S (X .cap) (suc t) i)) a))) in
-      rw quiet
+    not-complete-yet : (k : ℕ) → ticks (t + d) k < budget → response k ≡ 0
+    unfolding responseAt whole
+    not-complete-yet k h = rw (lt-leb budget (ticks (t + d) k) h, and-false (ltb 0 (jobOf k)))
 
-  -- one more that completes in this tick adds the response of its linked job
-  pub worst-next : (c : ℕ) → 0 < budget → completed S (X .cap) t i ≤ c → budget ≤ ticks (suc t) (c + 1)
-      → worstUpTo (c + 1) ≡ cond (ltb 0 (jobOf (c + 1))) (max (worstUpTo c) (suc t - releaseOf (srv S i) (jobOf (c + 1)))) (worstUpTo c)
-  unfolding worstUpTo
-  worst-next c b l h =
-      let own = complete-now (c + 1) h (left-over S (X .cap) t i (c + 1) b (omega arith)) in
-      rw (largest-next response c, own) (go (ltb 0 (jobOf (c + 1))) (suc t - releaseOf (srv S i) (jobOf (c + 1))))
-    where
-      go : (b : Bool) (r : ℕ)
-          → max (max (largest response (upTo c)) (cond b r 0)) (figure X (whole S) i t)
-          ≡ cond b (max (max (largest response (upTo c)) (figure X (whole S) i t)) r) (max (largest response (upTo c)) (figure X (whole S) i t))
-      go true r = omega arith
-      go false r = omega arith
+    complete-now : (k : ℕ) → budget ≤ ticks (t + d) k → ticks t k < budget
+        → response k ≡ cond (ltb 0 (jobOf k)) (t + d - releaseOf (srv S i) (jobOf k)) 0
+    unfolding responseAt whole
+    complete-now k h l = rw (le-leb budget (ticks (t + d) k) h, lt-ltb (ticks t k) budget l) (same (ltb 0 (jobOf k)))
+      where
+        same : (b : Bool) → cond (b && true) (t + d - releaseOf (srv S i) (jobOf k)) 0 ≡ cond b (t + d - releaseOf (srv S i) (jobOf k)) 0
+        same true = refl
+        same false = refl
+
+    pub worst-at-first : worst (completed S (X .cap) t i) ≡ figure X (whole S) i t
+    unfolding worstUpTo
+    worst-at-first =
+        let c = completed S (X .cap) t i in
+        let e : 0 + c ≡ c = omega arith in
+        let none : largest response (upTo c) ≡ 0 =
+        rw e at (largest-quiet response 0 c (λ k a b. complete-before k (is-complete S (X .cap) t i k a (omega arith)))) in
+        omega arith
+
+    figure-at : (v : ℕ) → v ≡ suc (t + last)
+        → figure X (whole S) i v ≡ max (largest (λ (k : ℕ). responseTo X t d i v k) (upTo (released (srv S i) t))) (figure X (whole S) i t)
+    unfolding finishing
+    figure-at v e =
+        let after =
+        figure-after X (whole S) t d quiet i (whole-ahead S (X .cap) t d quiet i inside budget-some) last (omega arith) in
+        rw (e, ← quiet .none-released i last inside (omega arith)) after
+
+    figure-at-end : figure X (whole S) i (t + d) ≡ max (largest response (upTo (released (srv S i) t))) (figure X (whole S) i t)
+    figure-at-end = figure-at (t + d) end-is
+
+    pub worst-at-last : worst (completed S (X .cap) (t + d) i) ≡ figure X (whole S) i (t + d)
+    unfolding worstUpTo
+    worst-at-last =
+        let c = completed S (X .cap) (t + d) i in
+        let n = released (srv S i) t in
+        let most : c ≤ n = omega (arith, completed-le S (X .cap) (t + d) i, released-at-end i inside) in
+        let e : c + (n - c) ≡ n = omega arith in
+        let none : largest response (upTo n) ≡ largest response (upTo c) =
+        rw e at
+        (largest-quiet response c (n - c)
+        (λ k a b. not-complete-yet k (not-complete S (X .cap) (t + d) i k (omega arith) (omega (arith, released-at-end i inside)) a))) in
+        rw (figure-at-end, none)
+
+    -- one more that completes in this span adds the response of its linked job
+    pub worst-next : (c : ℕ) → completed S (X .cap) t i ≤ c → budget ≤ ticks (t + d) (c + 1)
+        → worst (c + 1) ≡ cond (ltb 0 (jobOf (c + 1))) (max (worst c) (t + d - releaseOf (srv S i) (jobOf (c + 1)))) (worst c)
+    unfolding worstUpTo
+    worst-next c l h =
+        let own = complete-now (c + 1) h (left-over S (X .cap) t i (c + 1) budget-some (omega arith)) in
+        rw (largest-next response c, own) (go (ltb 0 (jobOf (c + 1))) (t + d - releaseOf (srv S i) (jobOf (c + 1))))
+      where
+        go : (b : Bool) (r : ℕ)
+            → max (max (largest response (upTo c)) (cond b r 0)) (figure X (whole S) i t)
+            ≡ cond b (max (max (largest response (upTo c)) (figure X (whole S) i t)) r) (max (largest response (upTo c)) (figure X (whole S) i t))
+        go true r = omega arith
+        go false r = omega arith

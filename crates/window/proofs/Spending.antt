@@ -1,122 +1,177 @@
--- The tick itself: each ready slot whose key is within the limit uses one tick of budget, and these are the server jobs that run. So the
--- rows have the ticks used before t + 1, with the complete server jobs of t still in their windows.
-use mathlib.Core.Path.{_≡_, _∙_}
-use mathlib.Core.Bool.{Bool, false, _&&_}
+-- The ticks of a span, used at once: the budget left of each slot that runs falls by them, and no other. So the rows have the ticks used before
+-- the span's end, with what is complete then still in the windows.
+use mathlib.Core.Path.{_≡_, refl, sym, ap, _∙_}
+use mathlib.Core.Bool.{false}
 use mathlib.Core.List.{List}
-use Prim.Native.Nat.{ℕ, suc, _+_, _-_, _≤_, _<_}
+use Prim.Native.Nat.{ℕ, zero, suc, _+_, _*_, _-_, _≤_, _<_}
+use native.Mathlib.Nat.{le-refl, not-suc-le-zero, mul-zero, mul-one}
 use native.Mathlib.Omega.{arith}
-use lib.Dec.{leb, leb→le, le→leb}
-use lib.ListN.{length}
-use borrow.Author.Tests.{lt-ltb, le-ltb}
+use lib.Dec.{T}
+use lib.ListN.{length, getD, length-set}
+use lib.Seq.{getD-set-same, getD-set-other}
 use Rattle.schedule.specs.Lists.{one?}
 use Rattle.schedule.specs.Servers.{Server, srv, Box, whole}
-use Rattle.schedule.specs.ServerJobs.{released, releasedBefore}
+use Rattle.schedule.specs.ServerJobs.{released}
 use Rattle.schedule.specs.Walk.{figure}
-use Rattle.schedule.proofs.Tests.{and-r, and-i, by-lt, bool-ext, one-le-one}
-use Rattle.theorems.proofs.Releases.{priority-grows}
-use Rattle.theorems.proofs.InTurn.{budgetOf, usedBy, running, used-out, used-step, completed, not-complete}
+use Rattle.schedule.proofs.Tests.{by-lt, either-way, dec, true-T}
+use Rattle.theorems.proofs.InTurn.{budgetOf, usedBy, running, completed}
 use Rattle.theorems.proofs.Linking.{linkOf}
+use Rattle.theorems.proofs.QuietSpans.{grown}
 use Rattle.table.specs.declared.State.{State}
 use Rattle.window.specs.declared.Plan.{Plan}
-use Rattle.window.specs.Entries.{countAt, firstAt, leftAt, nodesOf}
-use Rattle.window.specs.Spending.{spent}
-use Rattle.window.specs.Ticking.{limitOf, withLeft}
+use Rattle.window.specs.Entries.{window, countAt, leftAt}
+use Rattle.window.specs.Choosing.{Picks, chosen}
+use Rattle.window.specs.Spending.{placeAt, spent}
+use Rattle.window.specs.Working.{withLeft}
 use Rattle.window.proofs.Relation.{lastInstant, Fits, Row, Sized, Released}
-use Rattle.window.proofs.Keys.{readySlots, slotKey, slot-key, running-slot, running-standing, places-used}
-use Rattle.window.proofs.TickLoops.{spends, spent-length, spent-at}
+use Rattle.window.proofs.Keys.{slotJob}
+use Rattle.window.proofs.Ranks.{rankAt}
+use Rattle.window.proofs.Chosen.{ChosenAt, chosen-is, entry-runs, runs-at}
+use Rattle.window.proofs.Spans.{entry-place, Span}
 
--- a server job after the complete ones has budget left
-pub left-over : (S : List Server) (cap : ℕ → ℕ) (t i k : ℕ) → 0 < budgetOf S i → completed S cap t i < k → usedBy S cap t i k < budgetOf S i
-left-over S cap t i k b l =
-    by-lt (releasedBefore (srv S i) t) k (λ z. omega (arith, used-out S cap t i k z)) (λ z. not-complete S cap t i k (omega arith) z l)
+module _ (left at : List ℕ) (d : ℕ) where
+  abbrev after : ℕ → List ℕ
+  after m = spent left at d m
 
--- the state whose budgets left are one less where a server job ran
-abbrev pub ranOn : Plan → State → State
-ranOn plan a =
-    withLeft a (spent (a .left) (a .first) (a .count) (plan .level) (plan .step) (limitOf plan a) (nodesOf plan))
+  spent-length : (m : ℕ) → length (after m) ≡ length left
+  unfolding spent
+  spent-length zero = refl
+  spent-length (suc m) = length-set (after m) (placeAt at m) (getD (after m) (placeAt at m) 0 - d) ∙ spent-length m
 
-module _ (X : Box) (plan : Plan) (t : ℕ) (a : State) (fits : Fits X plan) (rel : Released X t a) (near : t ≤ lastInstant) where
+  spent-other : (m j : ℕ) → ((r : ℕ) → r < m → j ≡ placeAt at r → ⊥) → getD (after m) j 0 ≡ getD left j 0
+  unfolding spent
+  spent-other zero j h = refl
+  spent-other (suc m) j h =
+      getD-set-other (after m) (placeAt at m) j (getD (after m) (placeAt at m) 0 - d) 0 (h m (omega arith))
+      ∙ spent-other m j (λ r l. h r (omega arith))
+
+  -- where no two of the first m stand at one place
+  spent-in : (m r : ℕ) → r < m → ((a b : ℕ) → a < b → b < m → placeAt at a ≡ placeAt at b → ⊥) → ((a : ℕ) → a < m → placeAt at a < length left)
+      → getD (after m) (placeAt at r) 0 ≡ getD left (placeAt at r) 0 - d
+  unfolding spent
+  spent-in zero r h apart inside = absurd (not-suc-le-zero h)
+  spent-in (suc m) r h apart inside =
+      let v = getD (after m) (placeAt at m) 0 - d in
+      by-lt r m
+      (λ l. getD-set-other (after m) (placeAt at m) (placeAt at r) v 0 (apart r m l (omega arith))
+      ∙ spent-in m r l (λ a b u w. apart a b u (omega arith)) (λ a u. inside a (omega arith)))
+      (λ l.
+      let e : r ≡ m = omega arith in
+      rw e
+      (getD-set-same (after m) (placeAt at m) v 0 (omega (arith, spent-length m, inside m (omega arith)))
+      ∙ ap (λ x. x - d) (spent-other m (placeAt at m) (λ a u z. apart a m u (omega arith) (sym z)))))
+
+-- the state whose budgets left are d less where a server job ran
+abbrev pub ranOn : Plan → ℕ → State → State
+ranOn plan d st = withLeft st (spent (st .left) ((chosen plan st) .at) d ((chosen plan st) .count))
+
+module _ (X : Box) (plan : Plan) (t : ℕ) (st : State) (fits : Fits X plan) (rel : Released X t st) (near : t ≤ lastInstant) where
   abbrev S : List Server
   S = X .servers
 
   abbrev c : ℕ → ℕ
   c i = completed S (X .cap) t i
 
-  abbrev spendsAt : ℕ → ℕ → Bool
-  spendsAt i d = spends (a .left) (a .first) (a .count) (plan .level) (plan .step) (limitOf plan a) i d
+  abbrev chosenHere : Picks
+  chosenHere = chosen plan st
 
-  -- the first slot's key is the least, so the test of it lets no other pass
-  first-least : (i d : ℕ) → i < length S → d < countAt a i → firstAt a i ≤ slotKey plan a i d
-  first-least i d h l =
-      omega (
-        arith,
-        (rel .row i h) .first (omega arith),
-        slot-key X plan t a fits rel near i d h l,
-        priority-grows (srv S i) (c i + 1) (c i + 1 + d) (omega arith),
-      )
+  -- an entry's place in `left` says its server and its slot
+  record At (r i e : ℕ) (a : ChosenAt X plan t st r) : Type 0 where
+    place : a .place ≡ i
+    slot : a .slot ≡ e
 
-  -- what uses a tick is what runs
-  spends-running : (i d : ℕ) → i < length S → d < countAt a i → spendsAt i d ≡ running S (X .cap) t i (c i + 1 + d)
-  spends-running i d h l =
-      by-lt d (readySlots plan a i)
-      (λ k. rw (lt-ltb d (readySlots plan a i) k, running-slot X plan t a fits rel near i d h k)
-      (bool-ext (leb first limit && leb key limit) (leb key limit) (λ r. and-r (leb first limit) (leb key limit) r)
-      (λ r. and-i (leb first limit) (leb key limit)
-      (le→leb first limit (omega (arith, first-least i d h l, leb→le key limit r))) r)))
-      (λ k. rw (le-ltb d (readySlots plan a i) k)
-      (bool-ext (leb first limit && false) (running S (X .cap) t i (c i + 1 + d)) (λ r. absurd (and-r (leb first limit) false r))
-      (λ r.
-      let s = running-standing X plan t a fits rel near i (c i + 1 + d) r in
-      absurd (let z : ⊥ = omega (arith, s .within) in z))))
-    where
-      first : ℕ
-      first = firstAt a i
+  at-place : (r i e : ℕ) (a : ChosenAt X plan t st r) → e < window → i * window + e ≡ placeAt (chosenHere .at) r → At r i e a
+  at-place r i e a l z =
+      let p = entry-place X plan t st fits rel r a in
+      let w : a .slot < window = omega (arith, a .within, (rel .row (a .place) (a .inside)) .room) in
+      record { place = omega arith; slot = omega arith }
 
-      key : ℕ
-      key = slotKey plan a i d
+  one-place : (r r′ : ℕ) (a : ChosenAt X plan t st r) (b : ChosenAt X plan t st r′) → placeAt (chosenHere .at) r ≡ placeAt (chosenHere .at) r′ → r ≡ r′
+  one-place r r′ a b z =
+      let p = entry-place X plan t st fits rel r a in
+      let w : a .slot < window = omega (arith, a .within, (rel .row (a .place) (a .inside)) .room) in
+      let q = at-place r′ (a .place) (a .slot) b w (sym p ∙ z) in
+      let same : rankAt X t (slotJob X t (a .place) (a .slot)) ≡ r′ = rw (q .place, q .slot) at (b .ranked) in
+      sym (a .ranked) ∙ same
 
-      limit : ℕ
-      limit = limitOf plan a
+  places-apart : (r r′ : ℕ) → r < r′ → r′ < chosenHere .count → placeAt (chosenHere .at) r ≡ placeAt (chosenHere .at) r′ → ⊥
+  places-apart r r′ l h z =
+      let all = chosen-is X plan t st fits rel near in
+      let e = one-place r r′ (all .entry r (omega arith)) (all .entry r′ h) z in
+      omega arith
 
-  pub ran-sized : Sized (ranOn plan a)
-  ran-sized =
-      record {
-        servers = rel .sized .servers;
-        jobs = rel .sized .jobs;
-        left = spent-length (a .left) (a .first) (a .count) (plan .level) (plan .step) (limitOf plan a) (nodesOf plan) ∙ rel .sized .left;
-        first = rel .sized .first;
-        count = rel .sized .count;
-        until = rel .sized .until;
-      }
+  place-inside : (r : ℕ) → r < chosenHere .count → placeAt (chosenHere .at) r < length (st .left)
+  place-inside r h = omega (arith, rel .sized .left)
 
-  -- rule 6: the rows after the tick
-  pub ran-row : (i : ℕ) → i < length S
-      → Row (srv S i) i (usedBy S (X .cap) (suc t) i) (linkOf S (X .cap) (whole S) (suc t) i) (released (srv S i) t) (c i)
-      (figure X (whole S) i t) (ranOn plan a)
-  ran-row i h =
-      record {
-        count = r .count;
-        room = r .room;
-        left = λ d l.
-            let k = c i + 1 + d in
-            let fall : leftAt (ranOn plan a) i d ≡ leftAt a i d - one? (running S (X .cap) t i k) =
-            spent-at (a .left) (a .first) (a .count) (plan .level) (plan .step) (limitOf plan a) (nodesOf plan) i d
-            (omega (arith, rel .sized .left, places-used X plan t a fits rel near, fits .small))
-            (omega (arith, places-used X plan t a fits rel near)) (omega (arith, r .room))
-            ∙ rw (spends-running i d h l) in
-            omega (
-              arith,
-              r .left d l,
-              used-step S (X .cap) t i k,
-              left-over S (X .cap) t i k ((fits .at i h) .budget-some) (omega arith),
-              one-le-one (running S (X .cap) t i k),
-            );
-        slots = r .slots;
-        first = r .first;
-        unfinished = r .unfinished;
-        unlinked = r .unlinked;
-        worst = r .worst;
-      }
-    where
-      r : Row (srv S i) i (usedBy S (X .cap) t i) (linkOf S (X .cap) (whole S) (suc t) i) (released (srv S i) t) (c i) (figure X (whole S) i t) a
-      r = rel .row i h
+  module _ (boundary asked d : ℕ) (span : Span X plan t boundary asked st d) where
+    abbrev ran : State
+    ran = ranOn plan d st
+
+    pub ran-sized : Sized ran
+    ran-sized =
+        record {
+          servers = rel .sized .servers;
+          jobs = rel .sized .jobs;
+          left = spent-length (st .left) (chosenHere .at) d (chosenHere .count) ∙ rel .sized .left;
+          first = rel .sized .first;
+          count = rel .sized .count;
+          unfinished = rel .sized .unfinished;
+          unlinked = rel .sized .unlinked;
+          worst = rel .sized .worst;
+          next = rel .sized .next;
+        }
+
+    -- a slot that runs
+    fell : (i e : ℕ) → e < countAt st i → T (running S (X .cap) t i (c i + 1 + e)) → (leftAt ran i e ≡ leftAt st i e - d) × (d ≤ leftAt st i e)
+    fell i e l r =
+        let a = runs-at X plan t st fits rel near i (c i + 1 + e) r in
+        let b = a .entry in
+        let slot : b .slot ≡ e = omega (arith, a .number) in
+        let p : placeAt (chosenHere .at) (a .at) ≡ i * window + e = entry-place X plan t st fits rel (a .at) b ∙ rw (a .place, slot) in
+        let enough : d ≤ leftAt st i e = rw (a .place, slot) at (span .left (a .at) b (a .below-count)) in
+        let less = spent-in (st .left) (chosenHere .at) d (chosenHere .count) (a .at) (a .below-count) places-apart place-inside in
+        (rw p at less, enough)
+
+    -- and one that does not
+    stayed : (i e : ℕ) → i < length S → e < countAt st i → running S (X .cap) t i (c i + 1 + e) ≡ false → leftAt ran i e ≡ leftAt st i e
+    stayed i e h l idle =
+        spent-other (st .left) (chosenHere .at) d (chosenHere .count) (i * window + e)
+        (λ r g z.
+        let all = chosen-is X plan t st fits rel near in
+        let a = all .entry r g in
+        let q = at-place r i e a (omega (arith, (rel .row i h) .room)) z in
+        let runs : T (running S (X .cap) t i (c i + 1 + e)) = rw (q .place, q .slot) at (entry-runs X plan t st fits rel near r g a) in
+        rw idle at runs)
+
+    ran-left : (i e : ℕ) → i < length S → e < countAt st i → leftAt ran i e + usedBy S (X .cap) (t + d) i (c i + 1 + e) ≡ budgetOf S i
+    ran-left i e h l =
+        let k = c i + 1 + e in
+        let grew = grown S (X .cap) t d (span .quiet) d (le-refl d) i k in
+        let old = (rel .row i h) .left e l in
+        either-way (dec (running S (X .cap) t i k))
+        (λ y.
+        let m : d * one? (running S (X .cap) t i k) ≡ d = rw (y, mul-one d) in
+        let (less, enough) = fell i e l (true-T (running S (X .cap) t i k) y) in
+        omega arith)
+        (λ y.
+        let m : d * one? (running S (X .cap) t i k) ≡ 0 = rw (y, mul-zero d) in
+        omega (arith, stayed i e h l y))
+
+    -- rule 6: the rows after the ticks of the span
+    pub ran-row : (i : ℕ) → i < length S
+        → Row (srv S i) i (usedBy S (X .cap) (t + d) i) (linkOf S (X .cap) (whole S) (suc t) i) (released (srv S i) t) (c i)
+        (figure X (whole S) i t) ran
+    ran-row i h =
+        let r = rel .row i h in
+        record {
+          count = r .count;
+          room = r .room;
+          left = λ e l. ran-left i e h l;
+          slots = r .slots;
+          first = r .first;
+          idle = r .idle;
+          unfinished = r .unfinished;
+          unlinked = r .unlinked;
+          worst = r .worst;
+          next = r .next;
+        }

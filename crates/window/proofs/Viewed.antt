@@ -19,7 +19,7 @@ use Rattle.theorems.proofs.StateRows.{rowOf, row-is}
 use Rattle.theorems.proofs.Window.{nodeAt}
 use Rattle.table.specs.declared.Pending.{Pending}
 use Rattle.table.specs.declared.State.{State}
-use Rattle.window.specs.Entries.{slotOf, serverAt, countAt, leftAt}
+use Rattle.window.specs.Entries.{slotOf, serverAt, countAt, unfinishedAt, unlinkedAt, leftAt}
 use Rattle.window.proofs.Relation.{Slot, InStep}
 use Rattle.window.proofs.Counted.{unfinished-is, unlinked-is}
 
@@ -33,8 +33,8 @@ seenAt st i d = seen (leftAt st i d) (slotOf (serverAt st i) d)
 abbrev pub viewed : State → ℕ → NodeState
 viewed st i =
     record {
-      unfinished = (serverAt st i) .unfinished;
-      unlinked = (serverAt st i) .unlinked;
+      unfinished = unfinishedAt st i;
+      unlinked = unlinkedAt st i;
       pending = tab (seenAt st i) 0 (countAt st i);
     }
 

@@ -1,59 +1,83 @@
--- The ready server jobs laid out by their keys, and the first `processors` of them chosen: what the engine's functions compute.
-use mathlib.Core.Bool.{cond}
-use mathlib.Core.List.{List, [], _∷_, _++_}
-use Prim.Native.Nat.{ℕ, zero, suc, _+_, _-_, min}
-use lib.Dec.{ltb}
-use lib.ListN.{length, getD, set, replicate}
+-- The server jobs that run: the best, then the best after it, and so on. What the functions of `choosing` compute.
+use mathlib.Core.Path.{_≡_}
+use mathlib.Core.Bool.{Bool, cond}
+use mathlib.Core.List.{List}
+use Prim.Native.Nat.{ℕ, zero, suc, _+_, _*_, _%_, min}
+use lib.Dec.{ltb, eqb}
+use lib.ListN.{getD, set, replicate}
 use Rattle.schedule.specs.Limits as Limits
-use Rattle.window.specs.Entries.{lastKey}
-
--- the key after k, `step` further
-abbrev pub nextKey : ℕ → ℕ → ℕ
-nextKey k step = min (k + step) lastKey
+use Rattle.table.specs.declared.State.{State}
+use Rattle.window.specs.declared.Plan.{Plan}
+use Rattle.window.specs.Entries.{places, window, lastKey, further, nodesOf}
 
 -- how many of a server's slots are ready
 abbrev pub readyOf : ℕ → ℕ → ℕ
-readyOf count level = min count (min level (Limits.level .to))
+readyOf count level = min count level
 
--- the key of slot d, where k is that of slot 0
-unfoldable pub keyOfSlot : ℕ → ℕ → ℕ → ℕ
-keyOfSlot k step zero = k
-keyOfSlot k step (suc d) = nextKey (keyOfSlot k step d) step
+-- the least of the first n heads that is not below `from`
+abbrev pub headFrom : List ℕ → ℕ → ℕ → ℕ
+headFrom heads from i = cond (ltb (getD heads i 0) from) lastKey (getD heads i 0)
 
--- the keys of the first n slots; and those of the ready slots of the first n servers
-unfoldable pub keysOf : ℕ → ℕ → ℕ → List ℕ
-keysOf k step zero = []
-keysOf k step (suc n) = keysOf k step n ++ (keyOfSlot k step n ∷ [])
+unfoldable pub bestFrom : List ℕ → ℕ → ℕ → ℕ
+bestFrom heads from zero = lastKey
+bestFrom heads from (suc n) = min (bestFrom heads from n) (headFrom heads from n)
 
-module _ (first count level step : List ℕ) where
-  unfoldable pub laidOut : ℕ → List ℕ
-  laidOut zero = []
-  laidOut (suc n) = laidOut n ++ keysOf (getD first n 0) (getD step n 0) (readyOf (getD count n 0) (getD level n 0))
+-- what is chosen so far: `count` keys in `run`, rising, and in `at` where their budgets left stand; each server's head, the key of its first
+-- ready slot that is not chosen yet; how many slots of each are chosen; and the key from which on the next one is looked for
+pub record Picks : Type 0 where
+  pub run : List ℕ
+  pub at : List ℕ
+  pub heads : List ℕ
+  pub taken : List ℕ
+  pub from : ℕ
+  pub count : ℕ
 
--- a key put into a rising list at index n and on: the larger of two is carried further
-pub record Carried : Type 0 where
-  pub best : List ℕ
-  pub carry : ℕ
+abbrev pub placeOf : ℕ → ℕ
+placeOf key = key % places
 
-abbrev pub carriedAt : Carried → ℕ → Carried
-carriedAt c n =
-    cond (ltb (c .carry) (getD (c .best) n 0)) (record { best = set (c .best) n (c .carry); carry = getD (c .best) n 0 }) c
+module _ (first count level step : List ℕ) (n : ℕ) where
+  abbrev pub slotTaken : Picks → ℕ → ℕ
+  slotTaken c key = getD (c .taken) (placeOf key) 0 % window
 
-unfoldable pub carriedTo : List ℕ → ℕ → ℕ → Carried
-carriedTo best key zero = record { best = best; carry = key }
-carriedTo best key (suc n) = carriedAt (carriedTo best key n) n
+  -- the server has one more that is ready: it becomes the head. The head of one that has none stays, below `from`
+  abbrev pub anyMore : Picks → ℕ → Bool
+  anyMore c key = ltb (slotTaken c key + 1) (readyOf (getD count (placeOf key) 0) (getD level (placeOf key) 0))
 
--- the p least keys so far, rising, the largest key where there are fewer
-abbrev pub inserted : List ℕ → ℕ → ℕ → List ℕ
-inserted best p key = cond (ltb key (getD best (p - 1) 0)) ((carriedTo best key p) .best) best
+  abbrev pub pickKey : Picks → ℕ → Picks
+  pickKey c key =
+      record {
+        run = set (c .run) (c .count) key;
+        at = set (c .at) (c .count) (placeOf key * window + slotTaken c key);
+        heads = cond (anyMore c key) (set (c .heads) (placeOf key) (further key (getD step (placeOf key) 0))) (c .heads);
+        taken = cond (anyMore c key) (set (c .taken) (placeOf key) (slotTaken c key + 1)) (c .taken);
+        from = key + 1;
+        count = c .count + 1;
+      }
 
-module _ (keys : List ℕ) (p : ℕ) where
-  unfoldable pub chosen : ℕ → List ℕ
-  chosen zero = replicate (Limits.processors .to) lastKey
-  chosen (suc n) = inserted (chosen n) p (getD keys n 0)
+  abbrev pub bestOf : Picks → ℕ
+  bestOf c = bestFrom (c .heads) (c .from) n
 
--- of the ready server jobs of the first n servers
-abbrev pub runningKeys : (first count level step : List ℕ) → (n p : ℕ) → List ℕ
-runningKeys first count level step n p =
-    let keys : List ℕ = laidOut first count level step n in
-    chosen keys p (length keys)
+  abbrev pub pickNext : Picks → Picks
+  pickNext c = cond (eqb (bestOf c) lastKey) c (pickKey c (bestOf c))
+
+  -- the first m of them, into lists that are given
+  unfoldable pub picks : (run at : List ℕ) → ℕ → Picks
+  picks run at zero = record { run = run; at = at; heads = first; taken = replicate places 0; from = 0; count = 0 }
+  picks run at (suc m) = pickNext (picks run at m)
+
+-- what is put into the lists, and how many
+abbrev pub Picked : Picks → (count : ℕ) → (run at : List ℕ) → Type 0
+Picked c count run at = (count ≡ c .count) × ((run ≡ c .run) × (at ≡ c .at))
+
+-- of the ready server jobs of a state, for a tick of p processors
+abbrev pub noRun : List ℕ
+noRun = replicate (Limits.processors .to) lastKey
+
+abbrev pub noAt : List ℕ
+noAt = replicate (Limits.processors .to) 0
+
+abbrev pub chosenBy : Plan → (first count : List ℕ) → Picks
+chosenBy plan first count = picks first count (plan .level) (plan .step) (nodesOf plan) noRun noAt (plan .processors)
+
+abbrev pub chosen : Plan → State → Picks
+chosen plan st = chosenBy plan (st .first) (st .count)

@@ -8,29 +8,32 @@ use Rattle.schedule.specs.Limits as Limits
 use Rattle.table.specs.declared.Pending.{Pending}
 use Rattle.table.specs.declared.Server.{Server}
 use Rattle.table.specs.declared.State.{State}
-use Rattle.window.specs.declared.Work.{Work}
 use Rattle.window.specs.declared.Plan.{Plan}
 
--- how many places there are, and how many slots a window has
+-- how many places there are, how many slots a window has, and all windows together
 abbrev pub places : ℕ
 places = Limits.allNodes .to
 
 abbrev pub window : ℕ
 window = Limits.pending
 
+abbrev pub slots : ℕ
+slots = places * window
+
 -- what an entry outside of its list is
 abbrev pub noJob : Pending
 noJob = record { behind = 0; linked = false }
 
 abbrev pub noServer : Server
-noServer = record { jobs = []; worst = 0; unfinished = 0; unlinked = 0 }
-
-abbrev pub noWork : Work
-noWork = record { budget = 0; sink = false; after = 0; graph = 0; node = 0 }
+noServer = record { jobs = [] }
 
 -- the largest key: past every key of a server job
 abbrev pub lastKey : ℕ
 lastKey = 2 ^ 32 - 1
+
+-- a key or an instant `step` further on
+abbrev pub further : ℕ → ℕ → ℕ
+further k step = min (k + step) lastKey
 
 abbrev pub slotOf : Server → ℕ → Pending
 slotOf s d = getD (s .jobs) d noJob
@@ -45,16 +48,28 @@ module _ (st : State) where
   abbrev pub firstAt : ℕ → ℕ
   firstAt i = getD (st .first) i 0
 
-  abbrev pub untilAt : ℕ → ℕ
-  untilAt i = getD (st .until) i 0
+  abbrev pub unfinishedAt : ℕ → ℕ
+  unfinishedAt i = getD (st .unfinished) i 0
+
+  abbrev pub unlinkedAt : ℕ → ℕ
+  unlinkedAt i = getD (st .unlinked) i 0
+
+  abbrev pub worstAt : ℕ → ℕ
+  worstAt i = getD (st .worst) i 0
+
+  abbrev pub nextAt : ℕ → ℕ
+  nextAt i = getD (st .next) i 0
 
   -- the budget left of slot d
   abbrev pub leftAt : ℕ → ℕ → ℕ
   leftAt i d = getD (st .left) (i * window + d) 0
 
 module _ (plan : Plan) where
-  abbrev pub workAt : ℕ → Work
-  workAt i = getD (plan .work) i noWork
+  abbrev pub budgetAt : ℕ → ℕ
+  budgetAt i = getD (plan .budget) i 0
+
+  abbrev pub afterAt : ℕ → ℕ
+  afterAt i = getD (plan .after) i 0
 
   abbrev pub levelAt : ℕ → ℕ
   levelAt i = getD (plan .level) i 0
@@ -64,6 +79,12 @@ module _ (plan : Plan) where
 
   abbrev pub stepAt : ℕ → ℕ
   stepAt i = getD (plan .step) i 0
+
+  abbrev pub leadAt : ℕ → ℕ
+  leadAt i = getD (plan .lead) i 0
+
+  abbrev pub roomAt : ℕ → ℕ
+  roomAt i = getD (plan .room) i 0
 
   -- the places of the plan's nodes
   abbrev pub nodesOf : ℕ

@@ -1,72 +1,69 @@
--- Server jobs whose budget is used up are dropped, the oldest first, and the windows shifted: what the engine's functions compute.
-use mathlib.Core.Bool.{Bool, true, false, _&&_, cond}
+-- A server job whose budget is used up is dropped, and its window shifted: what the functions of `finishing` compute, and the loop of the walk over
+-- the server jobs that ran.
+use mathlib.Core.Bool.{Bool, _&&_, cond}
 use mathlib.Core.List.{List}
-use Prim.Native.Nat.{ℕ, zero, suc, _+_, _*_, _-_, _/_, min, max}
-use lib.Dec.{ltb, eqb}
+use Prim.Native.Nat.{ℕ, suc, _+_, _*_, _-_, min, max}
+use lib.Dec.{leb, ltb, eqb}
 use lib.ListN.{getD, set}
+use Rattle.table.specs.declared.Pending.{Pending}
 use Rattle.table.specs.declared.Server.{Server}
 use Rattle.table.specs.declared.State.{State}
 use Rattle.window.specs.declared.Plan.{Plan}
-use Rattle.window.specs.Entries.{places, window, lastKey, slotOf, serverAt, countAt, firstAt, stepAt, nodesOf}
-use Rattle.window.specs.Loops.{someBelow, replaced, inTurn}
-use Rattle.window.specs.Choosing.{nextKey}
+use Rattle.window.specs.Entries.{window, noServer, lastKey, further, slotOf, serverAt, countAt, firstAt, nextAt, periodAt, stepAt}
+use Rattle.window.specs.Loops.{replaced, inTurn}
+use Rattle.window.specs.Choosing.{placeOf}
 
--- the oldest server job of server i is complete
+-- the oldest server job at i is complete
 abbrev pub doneAt : List ℕ → List ℕ → ℕ → Bool
-doneAt left count i = ltb 0 (getD count i 0) && eqb (getD left (i * window) 0) 0
+doneAt left count i = ltb 0 (getD count i 0) && (leb (getD count i 0) window && eqb (getD left (i * window) 0) 0)
 
-abbrev pub anyDone : List ℕ → List ℕ → ℕ → Bool
-anyDone left count n = someBelow (doneAt left count) n
+-- the response of the job linked to the oldest of `count` server jobs, which finishes at `now`: that one was released so many periods before
+-- the next release, and the job's invocation `behind` periods before that
+abbrev pub responseOf : (now next count behind period : ℕ) → ℕ
+responseOf now next count behind period = min (now + (count + behind) * period - next) lastKey
 
--- the response of the job linked to the oldest server job, which finishes at `now`: the server job was released a period before its
--- deadline, and the job's invocation `behind` periods before that
-abbrev pub responseOf : ℕ → ℕ → ℕ → ℕ → ℕ
-responseOf now first step behind = min (now + (step / places) * (1 + behind) - first / places) lastKey
-
--- n slots, the oldest dropped
-abbrev pub shifted : Server → ℕ → Server
-shifted s n =
-    record {
-      jobs = replaced (λ (d : ℕ). slotOf s (suc d)) (s .jobs) (n - 1);
-      worst = s .worst;
-      unfinished = s .unfinished;
-      unlinked = s .unlinked;
-    }
-
-abbrev pub counted : Bool → Server → ℕ → Server
-counted true s response = record { jobs = s .jobs; worst = max (s .worst) response; unfinished = s .unfinished - 1; unlinked = s .unlinked }
-counted false s response = s
-
-abbrev pub dropped : Server → ℕ → ℕ → ℕ → ℕ → Server
-dropped s n now first step = counted ((slotOf s 0) .linked) (shifted s n) (responseOf now first step ((slotOf s 0) .behind))
+-- the window without its oldest
+abbrev pub shifted : Server → Server
+shifted s = record { jobs = replaced (λ (d : ℕ). slotOf s (suc d)) (s .jobs) (window - 1) }
 
 -- the budgets left of n slots from `base` on, each moved one place down
 abbrev pub movedDown : List ℕ → ℕ → ℕ → List ℕ
 movedDown left base n = inTurn (λ (l : List ℕ) (d : ℕ). set l (base + d) (getD l (base + suc d) 0)) left (n - 1)
 
-abbrev pub droppedWith : Plan → ℕ → State → ℕ → State
-droppedWith plan now st i =
+-- the key of the next one, where n are pending
+abbrev pub laterKey : (n key step : ℕ) → ℕ
+laterKey n key step = cond (ltb 1 n) (further key step) lastKey
+
+abbrev pub countedUnfinished : List ℕ → ℕ → Bool → List ℕ
+countedUnfinished unfinished i linked = cond linked (set unfinished i (getD unfinished i 0 - 1)) unfinished
+
+abbrev pub countedWorst : List ℕ → ℕ → Bool → ℕ → List ℕ
+countedWorst worst i linked response = cond linked (set worst i (max (getD worst i 0) response)) worst
+
+-- the windows with that at i shifted, where more than its oldest is pending
+abbrev pub shiftedAt : List Server → ℕ → ℕ → List Server
+shiftedAt servers i n = cond (ltb 1 n) (set servers i (shifted (getD servers i noServer))) servers
+
+-- the server at i without its oldest pending job; a linked one finishes its job
+abbrev pub finishedWith : Plan → ℕ → State → ℕ → State
+finishedWith plan now st i =
     let n : ℕ = countAt st i in
+    let p : Pending = slotOf (serverAt st i) 0 in
+    let response : ℕ = responseOf now (nextAt st i) n (p .behind) (periodAt plan i) in
     record {
-      servers = set (st .servers) i (dropped (serverAt st i) n now (firstAt st i) (stepAt plan i));
+      servers = shiftedAt (st .servers) i n;
       left = movedDown (st .left) (i * window) n;
-      first = set (st .first) i (nextKey (firstAt st i) (stepAt plan i));
+      first = set (st .first) i (laterKey n (firstAt st i) (stepAt plan i));
       count = set (st .count) i (n - 1);
-      until = st .until;
+      unfinished = countedUnfinished (st .unfinished) i (p .linked);
+      unlinked = st .unlinked;
+      worst = countedWorst (st .worst) i (p .linked) response;
+      next = st .next;
     }
 
-abbrev pub dropOne : Plan → ℕ → State → ℕ → State
-dropOne plan now st i = cond (doneAt (st .left) (st .count) i && ltb (countAt st i) (suc window)) (droppedWith plan now st i) st
+abbrev pub finishAt : Plan → ℕ → State → ℕ → State
+finishAt plan now st i = cond (doneAt (st .left) (st .count) i) (finishedWith plan now st i) st
 
--- one of each server
-abbrev pub droppedOnce : Plan → ℕ → State → State
-droppedOnce plan now st = inTurn (dropOne plan now) st (nodesOf plan)
-
--- until none is left to drop; a window holds no more than `rounds` of them
-unfoldable pub finishedIn : Plan → ℕ → ℕ → State → State
-finishedIn plan now zero st = st
-finishedIn plan now (suc rounds) st =
-    cond (anyDone (st .left) (st .count) (nodesOf plan)) (finishedIn plan now rounds (droppedOnce plan now st)) st
-
-abbrev pub finished : Plan → ℕ → State → State
-finished plan now st = finishedIn plan now window st
+-- of each of the first m that ran, in turn: the oldest server job at its place
+abbrev pub finishedAll : Plan → (now : ℕ) → (run : List ℕ) → State → ℕ → State
+finishedAll plan now run st m = inTurn (λ (u : State) (r : ℕ). finishAt plan now u (placeOf (getD run r 0))) st m

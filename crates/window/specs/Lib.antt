@@ -5,4 +5,4 @@ pub mod Choosing
 pub mod Spending
 pub mod Finishing
 pub mod Comparing
-pub mod Ticking
+pub mod Working

@@ -1,28 +1,30 @@
--- One tick of budget used by each ready server job whose key is at most `limit`: what the engine's functions compute.
-use mathlib.Core.Bool.{cond}
+-- A span, and its ticks used by each server job that runs: what the functions of `spending` compute.
+use mathlib.Core.Bool.{_&&_, cond}
 use mathlib.Core.List.{List}
-use Prim.Native.Nat.{ℕ, zero, suc, _+_, _*_, _-_}
-use lib.Dec.{leb}
+use Prim.Native.Nat.{ℕ, zero, suc, _-_, _%_, min}
+use lib.Dec.{ltb}
 use lib.ListN.{getD, set}
-use Rattle.window.specs.Entries.{window}
-use Rattle.window.specs.Choosing.{readyOf, keyOfSlot, runningKeys}
+use Rattle.window.specs.Entries.{slots}
 
--- of the first n slots, which stand from `base` on
-unfoldable pub spentSlots : List ℕ → ℕ → ℕ → ℕ → ℕ → ℕ → List ℕ
-spentSlots left base k step limit zero = left
-spentSlots left base k step limit (suc n) =
-    let before : List ℕ = spentSlots left base k step limit n in
-    cond (leb (keyOfSlot k step n) limit) (set before (base + n) (getD before (base + n) 0 - 1)) before
+-- the ticks from t to the first of three instants; at least 1
+abbrev pub ticksTo : (t release boundary asked : ℕ) → ℕ
+ticksTo t release boundary asked =
+    let to : ℕ = min (min release boundary) asked in
+    cond (ltb t to) (to - t) 1
 
-module _ (left first count level step : List ℕ) (limit : ℕ) where
-  -- of the first n servers
-  unfoldable pub spent : ℕ → List ℕ
-  spent zero = left
-  spent (suc n) =
-      cond (leb (getD first n 0) limit)
-      (spentSlots (spent n) (n * window) (getD first n 0) (getD step n 0) limit (readyOf (getD count n 0) (getD level n 0))) (spent n)
+-- the place in `left` of the r-th that runs
+abbrev pub placeAt : List ℕ → ℕ → ℕ
+placeAt at r = getD at r 0 % slots
 
--- a tick's work: the limit is the last key that runs
-abbrev pub workedLeft : (left first count level step : List ℕ) → (n p : ℕ) → List ℕ
-workedLeft left first count level step n p =
-    spent left first count level step (getD (runningKeys first count level step n p) (p - 1) 0) n
+abbrev pub lesser : ℕ → ℕ → ℕ
+lesser x least = cond (ltb 0 x && ltb x least) x least
+
+-- the least budget left of the first m that run, or `most`; 0 is passed over
+unfoldable pub leastLeft : (left at : List ℕ) → (most m : ℕ) → ℕ
+leastLeft left at most zero = most
+leastLeft left at most (suc r) = lesser (getD left (placeAt at r) 0) (leastLeft left at most r)
+
+-- d ticks used by each of the first m that run
+unfoldable pub spent : (left at : List ℕ) → (d m : ℕ) → List ℕ
+spent left at d zero = left
+spent left at d (suc r) = set (spent left at d r) (placeAt at r) (getD (spent left at d r) (placeAt at r) 0 - d)

@@ -1,9 +1,9 @@
 //! Plain safe Rust engines for the benchmark.
 //!
-//! Both keep a window of at most 16 pending server jobs per server. `Tick`
+//! Each keeps a window of at most 16 pending server jobs per server. `Tick`
 //! walks tick by tick; `Event` jumps to the next release or completion. They
 //! share every part but the length of a step, so that the ratio between them
-//! measures just that.
+//! measures just that. `Tuned` jumps too, with every trick of the proved engine.
 //!
 //! - `answer`: what a call returns;
 //! - `table`, `reader`: the table in fixed arrays, read from bytes;
@@ -11,6 +11,7 @@
 //! - `chosen`: the server jobs that run;
 //! - `engine`: one step of the schedule;
 //! - `walk`: boundaries and the stop;
+//! - `tuned`: the engine and the walk of `Tuned`;
 //! - `writer`: the text of an answer;
 //! - `call`: the two calls with a lent buffer.
 #![forbid(unsafe_code)]
@@ -21,6 +22,7 @@ mod chosen;
 mod engine;
 mod reader;
 mod table;
+mod tuned;
 mod walk;
 mod window;
 mod writer;

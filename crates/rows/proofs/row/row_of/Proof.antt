@@ -1,43 +1,61 @@
--- `row_of` meets its contract. The loop's invariant: the row so far is that of the first r keys.
-use mathlib.Core.Path.{_≡_, refl, ap, _∙_}
-use mathlib.Core.List.{List}
-use Prim.Native.Nat.{ℕ, _-_, _≤_}
+-- `row_of` meets its contract. The loop's invariant: the row so far has the first r entries.
+use mathlib.Core.Path.{_≡_, ap, _∙_}
+use Prim.Native.Nat.{_-_, _≤_}
 use native.Mathlib.Nat.{le-antisymm}
 use native.Mathlib.Omega.{arith}
-use lib.ListN.{getD}
 use borrow.Author.Needs.{needs}
-use Rattle.rows.specs.Showing.{rowTo}
-use Rattle.rows.proofs.Entries.{few-so-far, row-more}
+use Rattle.schedule.specs.Limits as Limits
+use Rattle.window.specs.Loops.{replaced}
+use Rattle.rows.specs.Showing.{blank, rowTo}
+use Rattle.rows.proofs.Entries.{chosen-row, entry-is, row-more, count-few}
 use Rattle.rows.proofs.row.row_of.Statement.{statement}
 use Rattle.rows.proofs.row.row_of.Tie as tie
 
 abbrev Inv-loop : tie.InvT-loop
-Inv-loop plan offsets st best p row₀ r₀ row r = (r ≤ p) × (row ≡ rowTo plan offsets st r)
+Inv-loop offsets st plan n run at m row₀ r₀ row r = (r ≤ m) × (m ≤ Limits.processors .to) × (row ≡ rowTo plan offsets st r)
 
 abbrev μ-loop : tie.MeasureT-loop
-μ-loop plan offsets st best p row₀ r₀ row r = p - r
+μ-loop offsets st plan n run at m row₀ r₀ row r = m - r
 
-best-of-requires : tie.Need-best-of-requires Inv-loop μ-loop
-best-of-requires c κs = c .pre
+smaller-requires : tie.Need-smaller-requires Inv-loop μ-loop
+smaller-requires c κs = search needs
+
+choose-requires : tie.Need-choose-requires Inv-loop μ-loop
+choose-requires c κs = search needs
+
+blank-requires : tie.Need-blank-requires Inv-loop μ-loop
+blank-requires c κs = search needs
 
 loop-holds : tie.Need-loop-holds Inv-loop μ-loop
-unfolding rowTo
-loop-holds c = (omega arith, refl)
+unfolding rowTo replaced
+loop-holds c =
+    let k = c .before in
+    let n = k .before .before .before .before .before .before .before .before in
+    let s = n .before .before .before in
+    let a = s .args in
+    let h = chosen-row (a .t1) (a .offsets) (a .st) (s .pre) (n .smaller .ensures) (k .choose .ensures) in
+    (omega arith, rw (h .0) (count-few (a .t1) (a .offsets) (a .st) (s .pre)), c .blank .ensures ∙ ap blank (h .0))
 
-mul-key : tie.Need-mul-key Inv-loop μ-loop
-mul-key c = search needs
+mul-run-of : tie.Need-mul-run-of Inv-loop μ-loop
+mul-run-of c = search needs
 
-array-read-key : tie.Need-array-read-key Inv-loop μ-loop
-array-read-key c = search needs
+array-read-run-of : tie.Need-array-read-run-of Inv-loop μ-loop
+array-read-run-of c = search needs
+
+mul-run-of-2 : tie.Need-mul-run-of-2 Inv-loop μ-loop
+mul-run-of-2 c = search needs
+
+array-read-run-of-2 : tie.Need-array-read-run-of-2 Inv-loop μ-loop
+array-read-run-of-2 c = search needs
 
 run-of-requires : tie.Need-run-of-requires Inv-loop μ-loop
 run-of-requires c κs = search needs
 
-with-run-requires : tie.Need-with-run-requires Inv-loop μ-loop
-with-run-requires c κs =
-    let l = c .before .before .loop in
-    let s = c .before .before .before .before in
-    omega (arith, few-so-far (s .args .plan) (s .args .offsets) (s .args .st) (l .r) (l .inv .1), s .pre .1)
+mul-x : tie.Need-mul-x Inv-loop μ-loop
+mul-x c = search needs
+
+element-set-from-x : tie.Need-element-set-from-x Inv-loop μ-loop
+element-set-from-x c = search needs
 
 add-r : tie.Need-add-r Inv-loop μ-loop
 add-r c = search needs
@@ -47,17 +65,24 @@ loop-less c = search needs
 
 loop-again : tie.Need-loop-again Inv-loop μ-loop
 loop-again c =
-    let l = c .before .before .before .loop in
-    let b = c .before .before .before .before in
-    let a = b .before .args in
-    let key = ap (λ (ks : List ℕ). getD ks (l .r) 0) (b .best-of .ensures) in
-    (omega arith, row-more (a .plan) (a .offsets) (a .st) (l .r) (l .inv .1) key (c .before .run-of .ensures) (c .with-run .ensures))
+    let l = c .before .before .loop in
+    let k = c .before .before .before .before in
+    let n = k .before .before .before .before .before .before .before .before in
+    let s = n .before .before .before in
+    let a = s .args in
+    let h = chosen-row (a .t1) (a .offsets) (a .st) (s .pre) (n .smaller .ensures) (k .choose .ensures) in
+    let x = entry-is (a .t1) (a .offsets) (a .st) (s .pre) (l .r) h (c .run-of .ensures) in
+    (omega arith, l .inv .1, row-more (a .t1) (a .offsets) (a .st) (s .pre) (l .r) (l .inv .2) x)
 
 returns : tie.Need-returns Inv-loop μ-loop
 returns c =
     let l = c .before .loop in
-    let a = c .before .before .before .args in
-    l .inv .1 ∙ ap (rowTo (a .plan) (a .offsets) (a .st)) (le-antisymm (l .inv .0) (c .loop-test .left))
+    let k = c .before .before .before in
+    let n = k .before .before .before .before .before .before .before .before in
+    let s = n .before .before .before in
+    let a = s .args in
+    let h = chosen-row (a .t1) (a .offsets) (a .st) (s .pre) (n .smaller .ensures) (k .choose .ensures) in
+    l .inv .2 ∙ ap (rowTo (a .t1) (a .offsets) (a .st)) (le-antisymm (l .inv .0) (c .loop-test .left) ∙ h .0)
 
 pub row-of-spec : {M : Type 1} → statement M
 row-of-spec =
@@ -65,12 +90,17 @@ row-of-spec =
     (tie.spec
     Inv-loop
     μ-loop
-    best-of-requires
+    smaller-requires
+    choose-requires
+    blank-requires
     loop-holds
-    mul-key
-    array-read-key
+    mul-run-of
+    array-read-run-of
+    mul-run-of-2
+    array-read-run-of-2
     run-of-requires
-    with-run-requires
+    mul-x
+    element-set-from-x
     add-r
     loop-less
     loop-again

@@ -6,16 +6,16 @@ use lib.ListN.{replicate}
 use borrow.Author.Needs.{needs}
 use Rattle.schedule.specs.Limits as Limits
 use Rattle.window.specs.Loops.{replaced}
-use Rattle.engine.proofs.LoopLaws.{replaced-more}
+use Rattle.window.proofs.LoopLaws.{replaced-more}
 use Rattle.sheet.specs.Figures.{worstAt, figureOf}
 use Rattle.sheet.proofs.figures.figures_of.Statement.{statement}
 use Rattle.sheet.proofs.figures.figures_of.Tie as tie
 
 abbrev Inv-loop : tie.InvT-loop
-Inv-loop st table f₀ g₀ f g = (g ≤ Limits.graphs .to) × (f ≡ replaced (figureOf table st) (replicate (Limits.graphs .to) 0) g)
+Inv-loop table worst f₀ g₀ f g = (g ≤ Limits.graphs .to) × (f ≡ replaced (figureOf table worst) (replicate (Limits.graphs .to) 0) g)
 
 abbrev μ-loop : tie.MeasureT-loop
-μ-loop st table f₀ g₀ f g = Limits.graphs .to - g
+μ-loop table worst f₀ g₀ f g = Limits.graphs .to - g
 
 loop-holds : tie.Need-loop-holds Inv-loop μ-loop
 unfolding replaced
@@ -47,11 +47,11 @@ loop-less c = search needs
 
 loop-again : tie.Need-loop-again Inv-loop μ-loop
 loop-again c =
-    let L = c .before .before .before .before in
+    let L = c .before .before .before .before .before in
     let A = L .before .args in (
       search needs,
-      replaced-more (figureOf (A .t1) (A .st)) (replicate (Limits.graphs .to) 0) (L .loop .g) (L .loop .inv .1)
-          (c .worst-at .ensures ∙ ap (worstAt (A .st)) (c .before .sink-of .ensures)),
+      replaced-more (figureOf (A .t1) (A .t2)) (replicate (Limits.graphs .to) 0) (L .loop .g) (L .loop .inv .1)
+          (c .worst-at .ensures ∙ ap (worstAt (A .t2)) (c .before .sink-of .ensures)),
     )
 
 returns : tie.Need-returns Inv-loop μ-loop

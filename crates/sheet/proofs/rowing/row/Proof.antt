@@ -30,8 +30,7 @@ walked-requires c κs =
 row-walk-requires : tie.Need-row-walk-requires
 row-walk-requires c κs =
     let A = c .before .before .before .before .before in
-    let w = passed-walkable _ _ (passes _ (A .admit .result) (A .admit .ensures) (c .before .before .before .enum-told .given .1)) in
-    (w .processors-some, w .processors-most)
+    passed-walkable _ _ (passes _ (A .admit .result) (A .admit .ensures) (c .before .before .before .enum-told .given .1)) .processors-most
 
 returns : tie.Need-returns
 returns c =

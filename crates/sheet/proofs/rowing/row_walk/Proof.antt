@@ -20,7 +20,7 @@ row-of-requires c κs = rw (c .before .before .plan-of .ensures) (c .before .bef
 
 put-running-requires : tie.Need-put-running-requires
 put-running-requires c κs =
-    rw (c .row-of .ensures, c .before .before .before .plan-of .ensures) (row-few _ _ _ (c .before .before .before .before .before .before .before .before .pre .1))
+    rw (c .row-of .ensures, c .before .before .before .plan-of .ensures) (row-few _ _ _ (c .before .before .before .before .before .before .before .before .pre))
 
 enum-told-2 : tie.Need-enum-told-2
 enum-told-2 c = search needs

@@ -17,7 +17,7 @@ largest-offset-requires c κs = search needs
 walk-to-requires : tie.Need-walk-to-requires
 walk-to-requires c κs =
     let w = c .before .before .before .before .pre in
-    rw (c .before .before .plan-of .ensures, c .largest-offset .ensures) (w .processors-some, w .processors-most, w .in-time)
+    rw (c .before .before .plan-of .ensures, c .largest-offset .ensures) (w .processors-most, w .in-time, w .hyper-some)
 
 returns : tie.Need-returns
 unfolding walkOfTable
