@@ -1,18 +1,16 @@
 -- The worked cases hold, by computation.
 use mathlib.Core.Path.{_≡_, refl}
-use mathlib.Core.List.{List, [], _∷_, _++_, map}
+use mathlib.Core.List.{List, [], _∷_, map}
 use mathlib.Core.Option.{Option, none, some}
 use Prim.Native.Nat.{ℕ, suc}
 use lib.ListN.{replicate}
-use Rattle.schedule.specs.Limits as Limits
-use Rattle.schedule.specs.Limits.{Range}
 use Rattle.schedule.specs.Lists.{upTo}
 use Rattle.format.specs.declared.Refusal.{Refusal}
 use Rattle.format.specs.declared.Refusal.the-variants.{TooLong, Misspelled, OutsideLimits}
 use Rattle.format.specs.Bytes.{bytes, decimal}
-use Rattle.format.specs.Keys.{Key, key, keys}
+use Rattle.format.specs.Keys.{key, keys}
 use Rattle.format.specs.Spelling.{number}
-use Rattle.format.specs.Reading.{Outcome, done, Place, readOf}
+use Rattle.format.specs.Reading.{done, readOf}
 use Rattle.format.specs.Refusals.{numberOf, lineOf}
 use Rattle.format.specs.Cases as Cases
 use Rattle.format.specs.Cases.{allLines, lines, changed, theTable, refusalOf, LineCase, NodesCase, threeNodes, afterAll, chains, NumberCase, KeyCase, Numbered, numbered}

@@ -1,16 +1,15 @@
 -- The decimal digits of a number are read back as that number, whatever follows them that is no digit. So no two numbers have the same
 -- digits: `number-read-back`, and `decimals-differ`, which takes the number and what follows it out of a text.
 use mathlib.Core.Path.{_≡_, refl, sym, ap, _∙_}
-use mathlib.Core.Bool.{Bool, true, false, cond}
+use mathlib.Core.Bool.{true, false}
 use mathlib.Core.List.{List, [], _∷_, _++_, append-assoc}
 use Prim.Native.Nat.{ℕ, zero, suc, _+_, _*_, _-_, _/_, _%_, _≤_, _<_}
 use native.Mathlib.Nat.{not-suc-le-zero}
 use native.Mathlib.Omega.{arith}
-use lib.Dec.{eqb}
-use borrow.Author.Tests.{le-leb, eq-eqb, ne-eqb}
+use borrow.Author.Tests.{le-leb, ne-eqb}
 use Rattle.schedule.proofs.Tests.{by-lt}
 use Rattle.format.specs.Bytes.{digitZero, isDigit, valueOf, decimal}
-use Rattle.format.specs.Spelling.{Scan, read, digits, number}
+use Rattle.format.specs.Spelling.{read, digits, number}
 use Rattle.format.proofs.Decimal.{decimal-one, decimal-more}
 
 -- a digit's byte, and its value

@@ -1,7 +1,6 @@
 -- The worked cases hold, by computation: for the walk in one pass, and so for that of the definitions.
 use mathlib.Core.Path.{_≡_, refl, subst}
-use mathlib.Core.List.{List, map}
-use Prim.Native.Nat.{ℕ}
+use mathlib.Core.List.{map}
 use Rattle.schedule.specs.Servers.{Box}
 use Rattle.schedule.specs.Walk.{Walked, wholeWalk}
 use Rattle.schedule.proofs.Walking.{onePassWalk, same-walk}

@@ -1,5 +1,5 @@
 -- The text of a report tells its numbers: no two reports of other numbers have the same text.
-use mathlib.Core.Path.{_≡_, refl, sym, ap, _∙_}
+use mathlib.Core.Path.{_≡_, refl, sym, _∙_}
 use mathlib.Core.List.{List, [], _∷_, _++_, append-assoc}
 use Prim.Native.Nat.{ℕ}
 use Prim.Native.String.{String}

@@ -8,11 +8,11 @@ use Rattle.schedule.specs.Described.{table, graph, alone, one, chain}
 use Rattle.schedule.specs.Servers.{Box}
 use Rattle.schedule.specs.Walk.{Walked}
 use Rattle.format.specs.declared.Refusal.{Refusal}
-use Rattle.format.specs.declared.Refusal.the-variants.{Misspelled, OutsideLimits, AgainstPredecessorRules, LongHyperperiod, NotLoadable, Backlog, Unsettled, PastTheStop, ShortBuffer}
+use Rattle.format.specs.declared.Refusal.the-variants.{Misspelled, AgainstPredecessorRules, LongHyperperiod, NotLoadable, Backlog, Unsettled, PastTheStop, ShortBuffer}
 use Rattle.format.specs.Bytes.{bytes}
 use Rattle.rules.specs.declared.Answer.{Answer}
 use Rattle.rules.specs.declared.Answer.the-variants.{Text, Refused}
-use Rattle.rules.specs.Admission.{Admission, admitted, refused, admissionOf}
+use Rattle.rules.specs.Admission.{Admission, admitted, refused}
 use Rattle.rules.specs.Answers.{Reply, reportAdmitted, rowAdmitted, Call}
 
 -- admission: H at its limit and past it, the load full and past it, and 5 before 6

@@ -4,7 +4,6 @@ use Prim.Native.Nat.{ℕ, _≤_, _<_}
 use native.Mathlib.Omega.{arith}
 use lib.ListN.{length}
 use Rattle.schedule.specs.Servers.{srv, Box, whole}
-use Rattle.schedule.specs.ServerJobs.{releaseOf}
 use Rattle.schedule.specs.LeastTrue.{Needs, LeastTrue}
 
 module _ (X : Box) (i : ℕ) (some : (k : ℕ) → k < length (X .servers) → 1 ≤ (srv (X .servers) k) .budget) where

@@ -2,7 +2,7 @@
 -- would change. They are computed in proofs/Cases.antt.
 use mathlib.Core.Bool.{Bool, true, false}
 use mathlib.Core.List.{List, [], _∷_}
-use mathlib.Core.Option.{Option, none, some}
+use mathlib.Core.Option.{none, some}
 use Prim.Native.Nat.{ℕ, _+_, _*_}
 use Rattle.schedule.specs.Lists.{tab, upTo}
 use Rattle.schedule.specs.Table.{Table}
