@@ -27,18 +27,20 @@ use Rattle.table.specs.Fresh.{freshState}
 use Rattle.window.specs.declared.Plan.{Plan}
 use Rattle.window.specs.Entries.{further, nodesOf}
 use Rattle.window.specs.Releasing.{releasedAt}
-use Rattle.window.specs.Comparing.{sameStates, keep}
-use Rattle.window.specs.Working.{spanOf, worked}
+use Rattle.window.specs.Comparing.{keep}
+use Rattle.window.specs.Working.{worked}
 use Rattle.window.proofs.Relation.{lastInstant, Fits, InStep, Released}
 use Rattle.window.proofs.Places.{sink-at}
 use Rattle.window.proofs.Backlog.{backlog-is}
 use Rattle.window.proofs.Release.{release-keeps}
 use Rattle.window.proofs.Keeping.{KeptSized, Holds, keep-sized, keep-holds}
 use Rattle.window.proofs.Compare.{same-states}
+use Rattle.window.proofs.Working.{works}
 use Rattle.walking.specs.declared.How.{How}
 use Rattle.walking.specs.declared.How.the-variants.{Settled, Unsettled, Backlog, Reached}
 use Rattle.walking.specs.declared.Walk.{Walk}
-use Rattle.walking.specs.Walking.{seenOf, keptOf, ended, backlogs, walkFrom, walkOf}
+use Rattle.walking.specs.Walking.{seenOf, keptOf, ended, settles, runsOut, backlogs, laterOf, roundOf, keptFrom, ticksFrom, decided}
+use Rattle.walking.specs.Walking.{walkFrom, walkOf}
 use Rattle.walking.proofs.Boundaries.{Next, boundary-is, round-is, last-is, within, not-at, next-most, later-same, later-next, next-within}
 
 -- the engine's word for a stop of the rules
@@ -79,15 +81,8 @@ module _ (X : Box) where
     in-step : InStep X u of
     holds : Holds of n kept
 
--- a span of d ticks from t on, and the state at its end
-abbrev pub Spans : (X : Box) → Plan → (t boundary asked : ℕ) → State → (d : ℕ) → Type 0
-Spans X plan t boundary asked st d =
-    (1 ≤ d) × (t + d ≤ boundary) × (t + d ≤ asked) × Quiet (X .servers) (X .cap) t d × InStep X (t + d) (worked plan t d st)
-
 module _ (X : Box) (plan : Plan) (fits : Fits X plan) (hyper-some : 0 < X .hyper) (time : X .origin + X .rounds * X .hyper ≤ lastInstant)
-    (late : (i : ℕ) → i < length (X .servers) → (srv (X .servers) i) .offset ≤ X .origin)
-    (works : (t boundary asked : ℕ) (st : State) → Released X t st → t < boundary → t < asked → t ≤ lastInstant
-        → Spans X plan t boundary asked st (spanOf plan t boundary asked st)) where
+    (late : (i : ℕ) → i < length (X .servers) → (srv (X .servers) i) .offset ≤ X .origin) where
   abbrev nodes : ℕ
   nodes = nodesOf plan
 
@@ -104,10 +99,10 @@ module _ (X : Box) (plan : Plan) (fits : Fits X plan) (hyper-some : 0 < X .hyper
   module _ (asked t next round : ℕ) (st : State) (kept : Kept) (k : Known asked t next round st kept) where
     -- the three tests of the rules, by the windows
     A : Bool
-    A = eqb t next && (ltb 0 round && sameStates st kept (X .hyper) nodes)
+    A = settles plan (X .hyper) (X .rounds) asked t next round st kept
 
     B : Bool
-    B = eqb t next && eqb round (X .rounds)
+    B = runsOut plan (X .hyper) (X .rounds) asked t next round
 
     C : Bool
     C = backlogs plan (X .hyper) (X .rounds) asked t st
@@ -168,13 +163,13 @@ module _ (X : Box) (plan : Plan) (fits : Fits X plan) (hyper-some : 0 < X .hyper
     now-released c = release-keeps X plan fits t st (k .in-step) early c
 
     abbrev later : ℕ
-    later = cond (eqb t next) (further next (X .hyper)) next
+    later = laterOf plan (X .hyper) (X .rounds) asked t next
 
     abbrev round′ : ℕ
-    round′ = cond (eqb t next) (suc round) round
+    round′ = roundOf plan (X .hyper) (X .rounds) asked t next round
 
     abbrev kept′ : Kept
-    kept′ = cond (eqb t next) (keep st kept nodes) kept
+    kept′ = keptFrom plan (X .hyper) (X .rounds) asked t next st kept
 
     -- `later` is the first boundary after t, number `r`; `held` what is kept of the one before it
     record Later (later r : ℕ) (held : Kept) : Type 0 where
@@ -222,15 +217,15 @@ module _ (X : Box) (plan : Plan) (fits : Fits X plan) (hyper-some : 0 < X .hyper
     a = releasedAt plan t st
 
     abbrev ticks : ℕ
-    ticks = spanOf plan t later asked a
+    ticks = ticksFrom plan (X .hyper) (X .rounds) asked t next a
 
     -- the walk goes on: the end of the span is known in turn
     module _ (no-a : A ≡ false) (no-b : B ≡ false) (no-c : C ≡ false) (no-d : eqb t asked ≡ false) where
       before : t < asked
       before = omega (arith, k .asked-later, eqb-false t asked no-d)
 
-      span : Spans X plan t later asked a ticks
-      span = works t later asked a (now-released no-c) ((later-is no-b) .ahead) before early
+      span : (1 ≤ ticks) × (t + ticks ≤ later) × (t + ticks ≤ asked) × Quiet (X .servers) (X .cap) t ticks × InStep X (t + ticks) (worked plan t ticks a)
+      span = works X plan fits t later asked a (now-released no-c) ((later-is no-b) .ahead) before early
 
       none-inside : (e : ℕ) → e < ticks → stopAt X (need X) (t + e) ≡ none
       none-inside =
@@ -283,30 +278,28 @@ module _ (X : Box) (plan : Plan) (fits : Fits X plan) (hyper-some : 0 < X .hyper
           goes-on = λ u l. by-lt u t (λ h. k .goes-on u h) (λ h. let q : u ≡ t = omega arith in rw q (none-now no-a no-b no-c));
         })
 
-    by-tests : (rest : Walk) → (A ≡ false → B ≡ false → C ≡ false → eqb t asked ≡ false → Ends X asked rest) → (p q r s : Bool) → A ≡ p → B ≡ q → C ≡ r
-        → eqb t asked ≡ s
-        → Ends X asked
-        (cond p (ended (Settled round) t st) (cond q (ended Unsettled t st) (cond r (ended Backlog t st) (cond s (ended Reached t a) rest))))
-    by-tests rest h true q r s e f g i = stops (settled round) (stop-is ∙ rw e)
-    by-tests rest h false true r s e f g i = stops unsettled (stop-is ∙ rw (e, f))
-    by-tests rest h false false true s e f g i = stops backlog (stop-is ∙ rw (e, f, g))
-    by-tests rest h false false false true e f g i = comes e f g i
-    by-tests rest h false false false false e f g i = h e f g i
+    ends-now : (rest : Walk) → (A ≡ false → B ≡ false → C ≡ false → eqb t asked ≡ false → Ends X asked rest)
+        → Ends X asked (decided plan (X .hyper) (X .rounds) asked t next round st kept rest)
+    unfolding A B C
+    ends-now rest later =
+        either-way (dec A) (λ e. rw e (stops (settled round) (stop-is ∙ rw e)))
+        (λ e. either-way (dec B) (λ f. rw (e, f) (stops unsettled (stop-is ∙ rw (e, f))))
+        (λ f. either-way (dec C) (λ g. rw (e, f, g) (stops backlog (stop-is ∙ rw (e, f, g))))
+        (λ g. either-way (dec (eqb t asked)) (λ h. rw (e, f, g, h) (comes e f g h)) (λ h. rw (e, f, g, h) (later e f g h)))))
 
   -- from any instant on: a span takes a tick at least, so there are events left while there is time left up to the last boundary
   ends-from : (asked left t next round : ℕ) (st : State) (kept : Kept) → Known asked t next round st kept → boundary X (need X) (X .rounds) < t + left
       → Ends X asked (walkFrom plan (X .hyper) (X .rounds) asked left t next round st kept)
-  unfolding walkFrom A B C
+  unfolding walkFrom
   ends-from asked zero t next round st kept k l = absurd (let x : ⊥ = omega (arith, in-time asked t next round st kept k) in x)
   ends-from asked (suc left) t next round st kept k l =
-      by-tests asked t next round st kept k
+      ends-now asked t next round st kept k
       (walkFrom plan (X .hyper) (X .rounds) asked left (t + ticks asked t next round st kept k) (later asked t next round st kept k)
       (round′ asked t next round st kept k) (worked plan t (ticks asked t next round st kept k) (releasedAt plan t st)) (kept′ asked t next round st kept k))
       (λ a b c d.
       ends-from asked left (t + ticks asked t next round st kept k) (later asked t next round st kept k) (round′ asked t next round st kept k)
       (worked plan t (ticks asked t next round st kept k) (releasedAt plan t st)) (kept′ asked t next round st kept k)
       (known-later asked t next round st kept k a b c d) (omega (arith, (span asked t next round st kept k a b c d) .0)))
-      (A asked t next round st kept k) (B asked t next round st kept k) (C asked t next round st kept k) (eqb t asked) refl refl refl refl
 
   pub walk-ends : (offsets : List ℕ) → InStep X 0 (freshState offsets) → (asked : ℕ)
       → Ends X asked (walkOf plan offsets (X .origin) (X .hyper) (X .rounds) asked)

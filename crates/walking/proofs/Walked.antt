@@ -15,13 +15,12 @@ use Rattle.rules.proofs.FirstStop.{stopped-is-first}
 use Rattle.table.specs.declared.State.{State}
 use Rattle.window.specs.declared.Plan.{Plan}
 use Rattle.window.specs.Entries.{places}
-use Rattle.window.specs.Working.{spanOf}
 use Rattle.window.proofs.Relation.{lastInstant, Fits, InStep, Released}
 use Rattle.window.proofs.Fresh.{fresh-in-step}
 use Rattle.walking.specs.declared.How.the-variants.{Reached}
 use Rattle.walking.specs.declared.Walk.{Walk}
 use Rattle.walking.specs.Walking.{seenOf, walkOf}
-use Rattle.walking.proofs.Ends.{howOf, Stops, Comes, Spans, walk-ends}
+use Rattle.walking.proofs.Ends.{howOf, Stops, Comes, walk-ends}
 
 module _ (X : Box) where
   abbrev pub stop : Stopped
@@ -43,8 +42,7 @@ module _ (X : Box) where
 
   at-stop : (asked : ℕ) (w : Walk) → Stops X asked w → (stop .ticks ≤ asked) × AtStop w
   at-stop asked w e =
-      let (same, how) = first-stop-is-unique X (whole (X .servers)) (e .stop) (stop .how) (w .ticks) (stop .ticks) (e .first) (stopped-is-first X (whole (X .servers))) in
-      (
+      let (same, how) = first-stop-is-unique X (whole (X .servers)) (e .stop) (stop .how) (w .ticks) (stop .ticks) (e .first) (stopped-is-first X (whole (X .servers))) in (
         omega (arith, e .by),
         record {
           how = e .how ∙ ap howOf how;
@@ -69,13 +67,11 @@ module _ (X : Box) where
 
 module _ (X : Box) (plan : Plan) (fits : Fits X plan) (some : 0 < X .hyper) (time : X .origin + X .rounds * X .hyper ≤ lastInstant)
     (late : (i : ℕ) → i < length (X .servers) → (srv (X .servers) i) .offset ≤ X .origin) (offsets : List ℕ) (all : length offsets ≡ places)
-    (each : (i : ℕ) → i < length (X .servers) → getD offsets i 0 ≡ (srv (X .servers) i) .offset) (asked : ℕ)
-    (works : (t boundary asked : ℕ) (st : State) → Released X t st → t < boundary → t < asked → t ≤ lastInstant
-        → Spans X plan t boundary asked st (spanOf plan t boundary asked st)) where
+    (each : (i : ℕ) → i < length (X .servers) → getD offsets i 0 ≡ (srv (X .servers) i) .offset) (asked : ℕ) where
   abbrev w : Walk
   w = walkOf plan offsets (X .origin) (X .hyper) (X .rounds) asked
 
   pub walked-is : (((stop X) .ticks ≤ asked) × AtStop X w) ⊎ ((asked < (stop X) .ticks) × BeforeStop X asked w)
   walked-is =
-      either-way (walk-ends X plan fits some time late works offsets (fresh-in-step X plan fits offsets all each) asked) (λ s. inl (at-stop X asked w s))
+      either-way (walk-ends X plan fits some time late offsets (fresh-in-step X plan fits offsets all each) asked) (λ s. inl (at-stop X asked w s))
       (λ c. inr (before-stop X asked w c))

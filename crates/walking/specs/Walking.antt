@@ -50,18 +50,36 @@ module _ (plan : Plan) (hyper rounds asked : ℕ) where
   backlogs t st =
       eqb t (earliest (st .next) n) && anyFull (st .next) (st .count) (st .unfinished) (plan .room) t n
 
+  -- the first boundary after t, where `boundary` is the first at or after it; its number; and what is kept of the one before it
+  abbrev pub laterOf : (t boundary : ℕ) → ℕ
+  laterOf t boundary = cond (eqb t boundary) (further boundary hyper) boundary
+
+  abbrev pub roundOf : (t boundary round : ℕ) → ℕ
+  roundOf t boundary round = cond (eqb t boundary) (suc round) round
+
+  abbrev pub keptFrom : (t boundary : ℕ) → State → Kept → Kept
+  keptFrom t boundary st kept = cond (eqb t boundary) (keep st kept n) kept
+
+  -- the ticks of the span from t on, where a is the state after the releases of t
+  abbrev pub ticksFrom : (t boundary : ℕ) → State → ℕ
+  ticksFrom t boundary a = spanOf plan t (laterOf t boundary) asked a
+
+  -- what the tests come to, where `rest` is the walk from the next event on
+  abbrev pub decided : (t boundary round : ℕ) → State → Kept → Walk → Walk
+  decided t boundary round st kept rest =
+      cond (settles t boundary round st kept) (ended (Settled round) t st)
+      (cond (runsOut t boundary round) (ended Unsettled t st)
+      (cond (backlogs t st) (ended Backlog t st) (cond (eqb t asked) (ended Reached t (releasedAt plan t st)) rest)))
+
   -- at instant t: `boundary` is the first boundary at or after t, number `round`; `kept` what is kept of the one before it
   unfoldable pub walkFrom : (left t boundary round : ℕ) → State → Kept → Walk
   walkFrom zero t boundary round st kept = ended Unsettled t st
   walkFrom (suc left) t boundary round st kept =
-      let later : ℕ = cond (eqb t boundary) (further boundary hyper) boundary in
       let a : State = releasedAt plan t st in
-      let d : ℕ = spanOf plan t later asked a in
+      let d : ℕ = ticksFrom t boundary a in
       let rest : Walk =
-      walkFrom left (t + d) later (cond (eqb t boundary) (suc round) round) (worked plan t d a) (cond (eqb t boundary) (keep st kept n) kept) in
-      cond (settles t boundary round st kept) (ended (Settled round) t st)
-      (cond (runsOut t boundary round) (ended Unsettled t st)
-      (cond (backlogs t st) (ended Backlog t st) (cond (eqb t asked) (ended Reached t a) rest)))
+      walkFrom left (t + d) (laterOf t boundary) (roundOf t boundary round) (worked plan t d a) (keptFrom t boundary st kept) in
+      decided t boundary round st kept rest
 
 -- from the fresh state, as far as the last boundary: each event takes a tick at least
 unfoldable pub walkOf : Plan → List ℕ → (origin hyper rounds asked : ℕ) → Walk

@@ -56,7 +56,7 @@ module _ (S : List Server) (cap : ℕ → ℕ) (need : ℕ → ℕ → ℕ) wher
   due-predecessor v i j p (q ∷ ps) m d = each-member (λ (q : ℕ). finishedBy S cap need v q j) (q ∷ ps) p m d
 
   -- a job that is finished was linked, so it was due, so each predecessor's job of that number was finished
-  pub predecessor-finished : (t i j p : ℕ) → 1 ≤ j → T (any? (eqb p) ((srv S i) .predecessors)) → Finished S cap need t i j
+  predecessor-finished : (t i j p : ℕ) → 1 ≤ j → T (any? (eqb p) ((srv S i) .predecessors)) → Finished S cap need t i j
       → Finished S cap need t p j
   unfolding dueBy due
   predecessor-finished t i j p a m f =
