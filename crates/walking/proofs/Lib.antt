@@ -1,5 +1,3 @@
-pub mod Boundaries
-pub mod Ends
-pub mod Walked
 pub mod Steps
-pub mod Ticks
+pub mod Turns
+pub mod Bounds
