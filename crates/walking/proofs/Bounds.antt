@@ -8,8 +8,8 @@ use native.Mathlib.Omega.{arith}
 use lib.Dec.{ltb}
 use lib.ListN.{getD}
 use borrow.Author.Tests.{lt-ltb, le-ltb, ltb-true}
-use Rattle.rules.specs.Limits as Limits
-use Rattle.rules.proofs.Tests.{by-lt}
+use Rattle.schedule.specs.Limits as Limits
+use Rattle.schedule.proofs.Tests.{by-lt}
 use Rattle.window.specs.Entries.{lastKey, further}
 use Rattle.window.specs.Spending.{ticksTo, placeAt, lesser, leastLeft}
 

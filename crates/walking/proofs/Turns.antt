@@ -8,8 +8,8 @@ use native.Mathlib.Omega.{arith}
 use lib.Dec.{leb, ltb, eqb}
 use lib.ListN.{getD, set}
 use borrow.Author.Tests.{ltb-true, leb-true}
-use Rattle.rules.specs.Limits as Limits
-use Rattle.rules.proofs.Tests.{and-l, and-r, T-true, true-T}
+use Rattle.schedule.specs.Limits as Limits
+use Rattle.schedule.proofs.Tests.{and-l, and-r, T-true, true-T}
 use Rattle.table.specs.declared.Pending.{Pending}
 use Rattle.table.specs.declared.Server.{Server}
 use Rattle.table.specs.declared.State.{State}
@@ -86,8 +86,7 @@ pub some-done : (left count : List ℕ) (i : ℕ) {x : Bool} → x ≡ doneAt le
 some-done left count i e h =
     let n : ℕ = getD count i 0 in
     let z : Bool = eqb (getD left (i * window) 0) 0 in
-    let t = true-T (ltb 0 n && (leb n window && z)) (sym e ∙ h) in
-    (
+    let t = true-T (ltb 0 n && (leb n window && z)) (sym e ∙ h) in (
       ltb-true 0 n (T-true (and-l (ltb 0 n) (leb n window && z) t)),
       leb-true n window (T-true (and-l (leb n window) z (and-r (ltb 0 n) (leb n window && z) t))),
     )
@@ -144,13 +143,13 @@ keptTo st kept j =
 
 module _ (st : State) (kept : Kept) (j : ℕ) (k : Kept) (e : k ≡ keptTo st kept j) where
   pub keeps-more : _≡_ {A = Kept} (record {
-        servers = set (k .servers) j (serverAt st j);
-        left = k .left;
-        count = k .count;
-        unfinished = k .unfinished;
-        unlinked = k .unlinked;
-        next = k .next;
-      }) (keptTo st kept (j + 1))
+    servers = set (k .servers) j (serverAt st j);
+    left = k .left;
+    count = k .count;
+    unfinished = k .unfinished;
+    unlinked = k .unlinked;
+    next = k .next;
+  }) (keptTo st kept (j + 1))
   unfolding replaced
   keeps-more = rw (add-one j, e)
 

@@ -6,7 +6,7 @@ use native.Mathlib.Nat.{le-antisymm}
 use native.Mathlib.Omega.{arith}
 use lib.ListN.{getD}
 use borrow.Author.Needs.{needs}
-use Rattle.rules.specs.Limits as Limits
+use Rattle.schedule.specs.Limits as Limits
 use Rattle.table.specs.declared.State.{State}
 use Rattle.table.specs.declared.Kept.{Kept}
 use Rattle.window.specs.declared.Plan.{Plan}
@@ -306,9 +306,8 @@ earliest-requires c κs = search needs
 
 loop-holds :
     tie.Need-loop-holds Inv-loop2 μ-loop2 Inv-loop3 μ-loop3 Inv-loop4 μ-loop4 Inv-loop μ-loop
-loop-holds c = 
-    let s = c .before .before .before .before .before .before .before .before .before .before .before .before in
-    (
+loop-holds c =
+    let s = c .before .before .before .before .before .before .before .before .before .before .before .before in (
       record { events = suc (s .args .origin + s .args .rounds * s .args .hyper); same = refl; enough = omega arith },
       c .earliest .ensures,
       omega arith,
@@ -345,7 +344,7 @@ ended-requires :
 ended-requires c κs = search needs
 
 returns : tie.Need-returns Inv-loop2 μ-loop2 Inv-loop3 μ-loop3 Inv-loop4 μ-loop4 Inv-loop μ-loop
-returns c = 
+returns c =
     let w = c .before .before in
     let s = w .before .before .before in
     let p = s .before .before .before .before .before .before .before .before .before .before .before .before in
@@ -360,7 +359,7 @@ ended-requires-2 c κs = search needs
 
 returns-2 :
     tie.Need-returns-2 Inv-loop2 μ-loop2 Inv-loop3 μ-loop3 Inv-loop4 μ-loop4 Inv-loop μ-loop
-returns-2 c = 
+returns-2 c =
     c .ended2 .ensures
     ∙ sym (whole (c .before .before .before .before)
     ∙ ends-unsettled _ _ _ _ _ _ _ _ _ _ _ (all-places (c .before .before .before .before)) (c .before .before .before .if1 .taken) (differs (c .before .before)) (c .before .if5 .taken))
@@ -440,7 +439,7 @@ ended-requires-3 c κs = search needs
 
 returns-3 :
     tie.Need-returns-3 Inv-loop2 μ-loop2 Inv-loop3 μ-loop3 Inv-loop4 μ-loop4 Inv-loop μ-loop
-returns-3 c = 
+returns-3 c =
     let f = c .before .before in
     let t = f .before .before .before .before .before .before in
     let j = t .before in
@@ -614,7 +613,7 @@ element-copy-out-enter c = omega (arith, place (c .before .before .before .befor
 
 enter-requires :
     tie.Need-enter-requires Inv-loop2 μ-loop2 Inv-loop3 μ-loop3 Inv-loop4 μ-loop4 Inv-loop μ-loop
-enter-requires c κs = 
+enter-requires c κs =
     let t = c .before .before .before .before .before .before .before .before .before .before .before .before in
     (place t, room t)
 
@@ -663,7 +662,7 @@ loop3-less c = search needs
 
 loop3-again :
     tie.Need-loop3-again Inv-loop2 μ-loop2 Inv-loop3 μ-loop3 Inv-loop4 μ-loop4 Inv-loop μ-loop
-loop3-again c = 
+loop3-again c =
     let q = c .before in
     let x = q .before .before .before .before in
     let i = x .before .before .before .before .before .before .before .before .before .before in
@@ -699,7 +698,7 @@ ended-requires-4 c κs = search needs
 
 returns-4 :
     tie.Need-returns-4 Inv-loop2 μ-loop2 Inv-loop3 μ-loop3 Inv-loop4 μ-loop4 Inv-loop μ-loop
-returns-4 c = 
+returns-4 c =
     let j = c .before .before in
     let i = j .before .before in
     c .ended4 .ensures
@@ -751,13 +750,12 @@ loop-less c = let s = c .before .before in omega (arith, span s .some, (released
 
 loop-again :
     tie.Need-loop-again Inv-loop2 μ-loop2 Inv-loop3 μ-loop3 Inv-loop4 μ-loop4 Inv-loop μ-loop
-loop-again c = 
+loop-again c =
     let s = c .before .before in
     let q = chosen-of s in
     let j = released-of q in
     let i = j .before .before in
-    let l = i .before .loop in
-    (
+    let l = i .before .loop in (
       one-more (plan i) (hyper i) (rounds i) (asked i) (last i) _ (l .t) (l .boundary) (l .round) (st i) (l .kept) (l .inv .0) (i .loop-test .taken) (span s .some)
           (goes-on (plan i) (hyper i) (rounds i) (asked i) (events i) (l .t) (l .boundary) (l .round) (n i) (st i) (l .kept) (all-places i)
           (j .before .if1 .boundary) (j .before .if1 .round) (j .before .if1 .kept) (passed (j .before)) (l .release) (l .inv .1) (now j) (went j)
@@ -925,7 +923,7 @@ element-copy-out-leave c = search needs
 
 leave-requires :
     tie.Need-leave-requires Inv-loop2 μ-loop2 Inv-loop3 μ-loop3 Inv-loop4 μ-loop4 Inv-loop μ-loop
-leave-requires c κs = 
+leave-requires c κs =
     let t = c .before .before .before .before .before .before .before .before .before .before .before .before in
     let x = t .before .before .before .before .before in
     let some = some-done (x .loop4 .left) (x .loop4 .count) (placeOf (getD (chosen-of (x .before) .choose .last .0) (x .loop4 .r) 0)) (t .before .is-done .ensures) (t .if10 .taken) in
@@ -940,7 +938,7 @@ loop4-less c = search needs
 
 loop4-again :
     tie.Need-loop4-again Inv-loop2 μ-loop2 Inv-loop3 μ-loop3 Inv-loop4 μ-loop4 Inv-loop μ-loop
-loop4-again c = 
+loop4-again c =
     let q = c .before in
     let x = q .before .before .before .before in
     let s = x .before in
@@ -966,7 +964,7 @@ ended-requires-5 c κs = search needs
 
 returns-5 :
     tie.Need-returns-5 Inv-loop2 μ-loop2 Inv-loop3 μ-loop3 Inv-loop4 μ-loop4 Inv-loop μ-loop
-returns-5 c = 
+returns-5 c =
     let l = c .before .before .loop in
     let s = c .before .before .before .before .before .before .before .before .before .before .before .before .before .before .before in
     let past = not-past (s .args .origin) (s .args .hyper) (s .args .rounds) (l .t) (l .boundary) (l .round) (l .inv .3) (l .inv .2) (l .inv .4) in
