@@ -5,7 +5,7 @@ use Prim.Native.Nat.{ℕ, zero, suc, _+_, _*_, _-_, _≤_, _<_, min}
 use mathlib.Core.Bool.{cond}
 use mathlib.Core.List.{List}
 use native.Mathlib.Omega.{arith}
-use lib.Dec.{ltb, eqb}
+use lib.Dec.{eqb}
 use lib.ListN.{length, getD, replicate, length-replicate}
 use borrow.Author.Tests.{eq-eqb, ne-eqb, lt-ltb}
 use Rattle.schedule.specs.Limits as Limits
@@ -16,13 +16,12 @@ use Rattle.table.specs.declared.Graph.{Graph}
 use Rattle.window.specs.Entries.{places}
 use Rattle.window.proofs.Loops.{replaced-length, replaced-in}
 use Rattle.reading.specs.Masks.{maskOf}
-use Rattle.reading.specs.Memory.{codedNode}
 use Rattle.planning.specs.declared.plans.Entry.{Entry}
 use Rattle.planning.specs.Narrowing.{most16, most8}
 use Rattle.planning.specs.Places.{atPlaces}
 use Rattle.planning.specs.Graphs as Mirror
 use Rattle.planning.specs.Graphs.{firstFor, numberIn, nextGraph, graphTo, placesOf}
-use Rattle.planning.specs.Plans.{entryOf, entryAt, byPlace}
+use Rattle.planning.specs.Plans.{entryAt, byPlace}
 use Rattle.planning.specs.Offsets.{graphsOf, offsetsOf}
 use Rattle.planning.proofs.Located.{graphAt, nodeAt, firstOf, first-next, first-within, first-rises}
 use Rattle.planning.proofs.Servers.{Some}

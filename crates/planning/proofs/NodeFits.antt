@@ -3,7 +3,7 @@ use mathlib.Core.Path.{_≡_, sym, ap, _∙_}
 use mathlib.Core.Bool.{Bool, true, _&&_, cond}
 use mathlib.Core.List.{List, map}
 use mathlib.Core.Logic.{inl, inr}
-use Prim.Native.Nat.{ℕ, suc, _+_, _-_, _*_, _^_, _≤_, _<_, min}
+use Prim.Native.Nat.{ℕ, suc, _+_, _-_, _^_, _≤_, _<_, min}
 use native.Mathlib.Omega.{arith}
 use lib.Dec.{T, leb, ltb, eqb, ltb→lt}
 use lib.ListN.{length}
@@ -36,7 +36,7 @@ use Rattle.planning.proofs.Located.{noNode, noGraph, graphAt, nodeAt, f
 use Rattle.schedule.specs.Servers.{serverOf}
 use Rattle.planning.proofs.Servers.{servers-length, server-at, sink-at, predecessor-at}
 use Rattle.planning.proofs.Memory.{LaidOut, laid-out}
-use Rattle.planning.proofs.Entries.{entryHere, plan-entry, period-entry, graph-entry}
+use Rattle.planning.proofs.Entries.{plan-entry, period-entry, graph-entry}
 
 module _ (X : Rules.Table) (ok : T (wellFormed X)) where
   abbrev Gs : List Rules.Graph

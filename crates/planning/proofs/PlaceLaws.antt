@@ -1,5 +1,5 @@
 -- The laws of masks by place: the bits of a mask that is made of a test; a mask is its bits, and moves bit by bit to its places.
-use mathlib.Core.Path.{_≡_, refl, sym, ap, _∙_}
+use mathlib.Core.Path.{_≡_, sym, ap, _∙_}
 use mathlib.Core.Bool.{Bool, true, false, _&&_, _||_, not, cond, or-false, or-true, false≢true}
 use Prim.Native.Nat.{ℕ, zero, suc, _+_, _-_, _/_, _%_, _^_, _<_, _≤_}
 use native.Mathlib.Nat.{mod-lt, zero-lt-suc, mod-eq-of-lt, mod-one}

@@ -1,7 +1,7 @@
 -- The plan of a table in memory. For the proof, not for belief.
 use mathlib.Core.Bool.{cond}
 use mathlib.Core.List.{List}
-use Prim.Native.Nat.{ℕ, _+_, _*_, _-_, min}
+use Prim.Native.Nat.{ℕ, _+_, _*_, min}
 use lib.ListN.{getD, replicate}
 use Rattle.schedule.specs.Limits as Limits
 use Rattle.table.specs.declared.Table.{Table}

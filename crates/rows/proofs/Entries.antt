@@ -1,7 +1,7 @@
 -- The entries of a row as it is filled: there is room for each, and each adds its line.
 use mathlib.Core.Path.{_≡_, refl, sym, _∙_}
-use mathlib.Core.List.{List, [], _∷_, _++_, map, map-append}
-use Prim.Native.Nat.{ℕ, zero, suc, _+_, _≤_, _<_, min}
+use mathlib.Core.List.{List, [], _∷_, map, map-append}
+use Prim.Native.Nat.{ℕ, zero, suc, _+_, _≤_, min}
 use native.Mathlib.Nat.{zero-add}
 use native.Mathlib.Numerals.{add-one}
 use native.Mathlib.Omega.{arith}
@@ -9,7 +9,6 @@ use lib.ListN.{length, getD, set, take}
 use lib.Seq.{take-suc-set}
 use Rattle.schedule.specs.Limits as Limits
 use Rattle.schedule.specs.Lists.{joined}
-use Rattle.schedule.specs.Walk.{Running}
 use Rattle.table.specs.declared.Seen.{Seen}
 use Rattle.window.specs.declared.Plan.{Plan}
 use Rattle.window.specs.Entries.{places}

@@ -1,16 +1,16 @@
 -- The row that `row_of` computes from a walk's windows is the row of the rules: `row-shown`.
-use mathlib.Core.Path.{_≡_, refl, sym, ap, subst, _∙_}
-use mathlib.Core.Bool.{Bool, _&&_, cond}
-use mathlib.Core.List.{List, [], _∷_, map}
+use mathlib.Core.Path.{_≡_, sym, ap, _∙_}
+use mathlib.Core.Bool.{Bool, _&&_}
+use mathlib.Core.List.{List, [], _∷_}
 use Prim.Native.Nat.{ℕ, suc, _+_, _*_, _-_, _/_, _%_, _≤_, _<_}
 use native.Mathlib.Nat.{mul-div-cancel}
 use native.Mathlib.Omega.{arith}
-use lib.Dec.{T, ltb, eqb, eqb→eq}
+use lib.Dec.{T, eqb, eqb→eq}
 use lib.ListN.{length, getD}
 use borrow.Author.Tests.{lt-ltb, le-ltb}
 use Rattle.schedule.specs.Lists.{keep, joined}
 use Rattle.schedule.specs.Servers.{Server, srv, Box, whole}
-use Rattle.schedule.specs.ServerJobs.{ServerJob, jobsFrom, releaseOf, released, releasedBefore, priorityOf, ready, readyJobs, used}
+use Rattle.schedule.specs.ServerJobs.{ServerJob, jobsFrom, releaseOf, released, releasedBefore, priorityOf, readyJobs, used}
 use Rattle.schedule.specs.Walk.{runningAt, rowAt}
 use Rattle.schedule.proofs.Tests.{by-lt, and-l, and-r, and-i, eq→eqb}
 use Rattle.theorems.proofs.Counts.{serverJob}
@@ -26,7 +26,7 @@ use Rattle.window.specs.declared.Plan.{Plan}
 use Rattle.window.specs.Entries.{places, window, slotOf, serverAt, countAt, leadAt}
 use Rattle.window.specs.Choosing.{Picks, chosen}
 use Rattle.window.proofs.Relation.{lastInstant, Fits, Slot, Released}
-use Rattle.window.proofs.Keys.{keyOf, slotJob, slotKey}
+use Rattle.window.proofs.Keys.{slotJob, slotKey}
 use Rattle.window.proofs.Ranks.{readyAt, rankAt}
 use Rattle.window.proofs.Chosen.{ChosenAt, ChosenIs, chosen-is}
 use Rattle.writing.specs.Row.{runningOf, runningIn}

@@ -1,131 +1,182 @@
--- One instant of `walkFrom`, by the tests in the order in which the code makes them: what each way through an instant comes to.
-use mathlib.Core.Path.{_≡_, refl, _∙_}
-use mathlib.Core.Bool.{true, false, _&&_, cond}
+-- One event of `walkFrom`, by the tests in the order in which the code makes them: what each way through an event comes to. `n` is the
+-- number of places as the code has it.
+use mathlib.Core.Path.{_≡_, refl, sym, ap, _∙_}
+use mathlib.Core.Bool.{Bool, true, false, _&&_, cond, and-assoc, and-false}
 use mathlib.Core.List.{List}
-use mathlib.Core.Logic.{_⊎_}
-use Prim.Native.Nat.{ℕ, suc, _+_, _*_, _-_, _≤_, _<_}
+use Prim.Native.Nat.{ℕ, zero, suc, _+_, _*_, _≤_, _<_}
 use native.Mathlib.Numerals.{add-one}
 use native.Mathlib.Omega.{arith}
 use lib.Dec.{ltb, eqb}
 use borrow.Author.Tests.{lt-ltb, le-ltb, eq-eqb, ne-eqb}
-use Rattle.schedule.proofs.Tests.{either-way}
 use Rattle.table.specs.declared.State.{State}
+use Rattle.table.specs.declared.Kept.{Kept}
 use Rattle.table.specs.Fresh.{freshState}
 use Rattle.window.specs.declared.Plan.{Plan}
-use Rattle.window.specs.Entries.{nodesOf}
-use Rattle.window.specs.Releasing.{anyReleases, backlogged, released}
-use Rattle.window.specs.Choosing.{nextKey}
-use Rattle.window.specs.Comparing.{sameStates}
-use Rattle.window.specs.Ticking.{releasedAt, worked}
+use Rattle.window.specs.Entries.{further, nodesOf}
+use Rattle.window.specs.Releasing.{earliest, anyFull, released, releasedAt}
+use Rattle.window.specs.Comparing.{sameCounts, samePhases, sameLeft, sameNumbers, sameWindows, sameStates, keep}
+use Rattle.window.specs.Working.{spanOf, worked}
 use Rattle.walking.specs.declared.How.the-variants.{Settled, Unsettled, Backlog, Reached}
 use Rattle.walking.specs.declared.Walk.{Walk}
-use Rattle.walking.specs.Walking.{ended, walkFrom, walkOf}
+use Rattle.walking.specs.Walking.{ended, keptOf, walkFrom, walkOf}
 
-module _ (plan : Plan) (hyper rounds asked left t next round : ℕ) (st saved : State) where
-  abbrev n : ℕ
-  n = nodesOf plan
+abbrev pub numbers : State → Kept → (hyper n : ℕ) → Bool
+numbers st kept hyper n =
+    sameNumbers (st .count) (kept .count) (st .unfinished) (kept .unfinished) (st .unlinked) (kept .unlinked) (st .next) (kept .next) (st .left)
+    (kept .left) hyper n
 
+abbrev pub windows : State → Kept → ℕ → Bool
+windows st kept n = sameWindows (st .servers) (kept .servers) (st .count) n
+
+and-in : (a b c d e f : Bool) → ((a && (b && (c && (d && e)))) && f) ≡ (a && (b && (c && (d && (e && f)))))
+and-in true true true true e f = refl
+and-in true true true false e f = refl
+and-in true true false d e f = refl
+and-in true false c d e f = refl
+and-in false b c d e f = refl
+
+both-parts : (st : State) (kept : Kept) (hyper n : ℕ) → (numbers st kept hyper n && windows st kept n) ≡ sameStates st kept hyper n
+both-parts st kept hyper n =
+    and-in (sameCounts (st .count) (kept .count) n) (sameCounts (st .unfinished) (kept .unfinished) n) (sameCounts (st .unlinked) (kept .unlinked) n)
+    (samePhases (st .next) (kept .next) hyper n) (sameLeft (st .left) (kept .left) (st .count) n) (windows st kept n)
+
+-- `left` events at most are left after this one
+module _ (plan : Plan) (hyper rounds asked left t boundary round n : ℕ) (st : State) (kept : Kept) (same : n ≡ nodesOf plan) where
   abbrev here : Walk
-  here = walkFrom plan hyper rounds asked (suc left) t next round st saved
+  here = walkFrom plan hyper rounds asked (suc left) t boundary round st kept
 
   -- the boundary's state is another than the one before, or there is none before
   abbrev pub Differs : Type 0
-  Differs = ((0 < round) × (sameStates st saved n ≡ false)) ⊎ (round ≤ 0)
+  Differs = (ltb 0 round && sameStates st kept hyper (nodesOf plan)) ≡ false
 
-  not-settled : Differs → (ltb 0 round && sameStates st saved n) ≡ false
-  not-settled d = either-way d (λ x. rw (lt-ltb 0 round (x .0), x .1)) (λ x. rw (le-ltb 0 round x))
+  pub differs-windows : 0 < round → {x y : Bool} → x ≡ numbers st kept hyper n → x ≡ true → y ≡ windows st kept n → y ≡ false → Differs
+  differs-windows p e f g h =
+      let whole : sameStates st kept hyper n ≡ false = sym (both-parts st kept hyper n) ∙ rw (sym e ∙ f) (sym g ∙ h) in
+      rw (lt-ltb 0 round p) (rw same at whole)
 
-  pub settles : t ≡ next → 0 < round → sameStates st saved n ≡ true → here ≡ ended (Settled round) t st
+  pub differs-numbers : 0 < round → {x : Bool} → x ≡ numbers st kept hyper n → x ≡ false → Differs
+  differs-numbers p e f =
+      let whole : sameStates st kept hyper n ≡ false = sym (both-parts st kept hyper n) ∙ rw (sym e ∙ f) in
+      rw (lt-ltb 0 round p) (rw same at whole)
+
+  pub differs-first : round ≤ 0 → Differs
+  differs-first h = rw (le-ltb 0 round h)
+
+  pub settles : t ≡ boundary → 0 < round → {x y : Bool} → x ≡ numbers st kept hyper n → x ≡ true → y ≡ windows st kept n → y ≡ true
+      → here ≡ ended (Settled round) t st
   unfolding walkFrom
-  settles e p s = rw (eq-eqb t next e, lt-ltb 0 round p, s)
+  settles e p f g h k =
+      let whole : sameStates st kept hyper n ≡ true = sym (both-parts st kept hyper n) ∙ rw (sym f ∙ g) (sym h ∙ k) in
+      rw (eq-eqb t boundary e, lt-ltb 0 round p, rw same at whole)
 
-  pub ends-unsettled : t ≡ next → Differs → round ≡ rounds → here ≡ ended Unsettled t st
+  pub ends-unsettled : t ≡ boundary → Differs → round ≡ rounds → here ≡ ended Unsettled t st
   unfolding walkFrom
-  ends-unsettled e d r = rw (eq-eqb t next e, not-settled d, eq-eqb round rounds r)
+  ends-unsettled e d r = rw (eq-eqb t boundary e, d, eq-eqb round rounds r)
 
   -- past the boundary tests, with what is kept from here on
-  pub record Passes (next′ round′ : ℕ) (saved′ : State) : Type 0 where
-    pub no-settling : (eqb t next && (ltb 0 round && sameStates st saved n)) ≡ false
-    pub no-end : (eqb t next && eqb round rounds) ≡ false
-    pub next-is : next′ ≡ cond (eqb t next) (nextKey next hyper) next
-    pub round-is : round′ ≡ cond (eqb t next) (suc round) round
-    pub saved-is : saved′ ≡ cond (eqb t next) st saved
+  pub record Passes (boundary′ round′ : ℕ) (kept′ : Kept) : Type 0 where
+    pub no-settling : (eqb t boundary && (ltb 0 round && sameStates st kept hyper (nodesOf plan))) ≡ false
+    pub no-end : (eqb t boundary && eqb round rounds) ≡ false
+    pub boundary-is : boundary′ ≡ cond (eqb t boundary) (further boundary hyper) boundary
+    pub round-is : round′ ≡ cond (eqb t boundary) (suc round) round
+    pub kept-is : kept′ ≡ cond (eqb t boundary) (keep st kept (nodesOf plan)) kept
 
-  pub passes-boundary : (next′ round′ : ℕ) (saved′ : State) → t ≡ next → Differs → (round ≡ rounds → ⊥) → next′ ≡ nextKey next hyper → round′ ≡ round + 1
-      → saved′ ≡ st → Passes next′ round′ saved′
-  passes-boundary next′ round′ saved′ e d r a b c =
-      let at : eqb t next ≡ true = eq-eqb t next e in
+  pub passes-boundary : {boundary′ round′ : ℕ} {kept′ : Kept} → t ≡ boundary → Differs → (round ≡ rounds → ⊥) → boundary′ ≡ further boundary hyper
+      → round′ ≡ round + 1 → kept′ ≡ keep st kept n → Passes boundary′ round′ kept′
+  passes-boundary e d r a b c =
+      let at : eqb t boundary ≡ true = eq-eqb t boundary e in
       record {
-        no-settling = rw (at, not-settled d);
+        no-settling = rw (at, d);
         no-end = rw (at, ne-eqb round rounds r);
-        next-is = rw at a;
+        boundary-is = rw at a;
         round-is = rw at (b ∙ add-one round);
-        saved-is = rw at c;
+        kept-is = rw at (rw same at c);
       }
 
-  pub passes-between : (next′ round′ : ℕ) (saved′ : State) → (t ≡ next → ⊥) → next′ ≡ next → round′ ≡ round → saved′ ≡ saved → Passes next′ round′ saved′
-  passes-between next′ round′ saved′ e a b c =
-      let off : eqb t next ≡ false = ne-eqb t next e in
-      record { no-settling = rw off; no-end = rw off; next-is = rw off a; round-is = rw off b; saved-is = rw off c }
+  pub passes-between : {boundary′ round′ : ℕ} {kept′ : Kept} → (t ≡ boundary → ⊥) → boundary′ ≡ boundary → round′ ≡ round → kept′ ≡ kept
+      → Passes boundary′ round′ kept′
+  passes-between e a b c =
+      let off : eqb t boundary ≡ false = ne-eqb t boundary e in
+      record { no-settling = rw off; no-end = rw off; boundary-is = rw off a; round-is = rw off b; kept-is = rw off c }
 
-  module _ (next′ round′ : ℕ) (saved′ : State) (p : Passes next′ round′ saved′) where
-    pub ends-in-backlog : anyReleases (st .until) n ≡ true → backlogged plan st n ≡ true → here ≡ ended Backlog t st
+  module _ (boundary′ round′ : ℕ) (kept′ : Kept) (p : Passes boundary′ round′ kept′) (release : ℕ) (next : release ≡ earliest (st .next) n) where
+    at-release : t ≡ release → eqb t (earliest (st .next) (nodesOf plan)) ≡ true
+    at-release e = rw same at (eq-eqb t (earliest (st .next) n) (e ∙ next))
+
+    off-release : (t ≡ release → ⊥) → eqb t (earliest (st .next) (nodesOf plan)) ≡ false
+    off-release e = rw same at (ne-eqb t (earliest (st .next) n) (λ h. e (h ∙ sym next)))
+
+    pub ends-in-backlog : t ≡ release → {x : Bool} → x ≡ anyFull (st .next) (st .count) (st .unfinished) (plan .room) t n → x ≡ true
+        → here ≡ ended Backlog t st
     unfolding walkFrom
-    ends-in-backlog r b = rw (p .no-settling, p .no-end, r, b)
+    ends-in-backlog e f g =
+        let full : anyFull (st .next) (st .count) (st .unfinished) (plan .room) t n ≡ true = sym f ∙ g in
+        rw (p .no-settling, p .no-end, at-release e, rw same at full)
 
     -- past the backlog test, with the state after the releases
     pub record Goes (a : State) : Type 0 where
-      pub no-backlog : (anyReleases (st .until) n && backlogged plan st n) ≡ false
+      pub no-backlog : (eqb t (earliest (st .next) (nodesOf plan)) && anyFull (st .next) (st .count) (st .unfinished) (plan .room) t (nodesOf plan)) ≡ false
       pub is-released : a ≡ releasedAt plan t st
 
-    pub goes-released : (a : State) → anyReleases (st .until) n ≡ true → backlogged plan st n ≡ false → a ≡ released plan t st → Goes a
-    goes-released a r b e = record { no-backlog = rw (r, b); is-released = rw r e }
+    pub goes-released : {a : State} → t ≡ release → {x : Bool} → x ≡ anyFull (st .next) (st .count) (st .unfinished) (plan .room) t n → x ≡ false
+        → a ≡ released plan t st → Goes a
+    goes-released e f g r =
+        let full : anyFull (st .next) (st .count) (st .unfinished) (plan .room) t n ≡ false = sym f ∙ g in
+        record { no-backlog = rw (at-release e, rw same at full); is-released = rw (at-release e) r }
 
-    pub goes-without : (a : State) → anyReleases (st .until) n ≡ false → a ≡ st → Goes a
-    goes-without a r e = record { no-backlog = rw r; is-released = rw r e }
+    pub goes-without : {a : State} → (t ≡ release → ⊥) → a ≡ st → Goes a
+    goes-without e r = record { no-backlog = rw (off-release e); is-released = rw (off-release e) r }
 
     module _ (a : State) (g : Goes a) where
       pub reaches : t ≡ asked → here ≡ ended Reached t a
       unfolding walkFrom
       reaches e = rw (p .no-settling, p .no-end, g .no-backlog, eq-eqb t asked e, g .is-released)
 
-      pub goes-on : (t ≡ asked → ⊥) → (later : State) → later ≡ worked plan t a
-          → here ≡ walkFrom plan hyper rounds asked left (t + 1) next′ round′ later saved′
+      pub goes-on : (t ≡ asked → ⊥) → (d : ℕ) → d ≡ spanOf plan t boundary′ asked a → (later : State) → later ≡ worked plan t d a
+          → here ≡ walkFrom plan hyper rounds asked left (t + d) boundary′ round′ later kept′
       unfolding walkFrom
-      goes-on e later w =
-          rw (p .no-settling, p .no-end, g .no-backlog, ne-eqb t asked e, add-one t, w, g .is-released, p .next-is, p .round-is, p .saved-is)
+      goes-on e d s later w =
+          rw (p .no-settling, p .no-end, g .no-backlog, ne-eqb t asked e, w, s, g .is-released, p .boundary-is, p .round-is, p .kept-is)
 
--- the whole walk is what is left of it from an instant t on, where that is known and t is not past the last boundary
-pub from-here : (plan : Plan) (offsets : List ℕ) (origin hyper rounds asked t next round : ℕ) (fresh st saved : State) → fresh ≡ freshState offsets
-    → walkFrom plan hyper rounds asked (suc (origin + rounds * hyper)) 0 origin 0 fresh fresh
-    ≡ walkFrom plan hyper rounds asked (suc (origin + rounds * hyper) - t) t next round st saved
-    → t ≤ origin + rounds * hyper
-    → walkOf plan offsets origin hyper rounds asked ≡ walkFrom plan hyper rounds asked (suc (origin + rounds * hyper - t)) t next round st saved
+-- what is left of a whole walk at an instant t, in some number of events that is enough
+pub record Remains (plan : Plan) (hyper rounds asked last : ℕ) (whole : Walk) (t boundary round : ℕ) (st : State) (kept : Kept) : Type 0 where
+  pub events : ℕ
+  pub same : whole ≡ walkFrom plan hyper rounds asked events t boundary round st kept
+  pub enough : last < t + events
+
+-- not past the last boundary, one event at least
+module _ (plan : Plan) (hyper rounds asked last : ℕ) (whole : Walk) (t boundary round : ℕ) (st : State) (kept : Kept)
+    (r : Remains plan hyper rounds asked last whole t boundary round st kept) (l : t ≤ last) where
+  some : (f : ℕ) → f ≡ r .events → (left : ℕ) × (r .events ≡ suc left)
+  some zero e = absurd (omega (arith, r .enough))
+  some (suc f) e = (f, sym e)
+
+  pub after : ℕ
+  after = some (r .events) refl .0
+
+  pub from-here : whole ≡ walkFrom plan hyper rounds asked (suc after) t boundary round st kept
+  unfolding after some
+  from-here = r .same ∙ ap (λ (f : ℕ). walkFrom plan hyper rounds asked f t boundary round st kept) (some (r .events) refl .1)
+
+  pub one-more : {d boundary′ round′ : ℕ} {later : State} {kept′ : Kept} → 1 ≤ d
+      → walkFrom plan hyper rounds asked (suc after) t boundary round st kept ≡ walkFrom plan hyper rounds asked after (t + d) boundary′ round′ later kept′
+      → Remains plan hyper rounds asked last whole (t + d) boundary′ round′ later kept′
+  unfolding after some
+  one-more {d} h e = record { events = after; same = from-here ∙ e; enough = omega (arith, r .enough, some (r .events) refl .1) }
+
+-- the whole walk, from the fresh state
+pub from-start : (plan : Plan) (offsets : List ℕ) (origin hyper rounds asked : ℕ) (fresh : State) → fresh ≡ freshState offsets
+    → walkOf plan offsets origin hyper rounds asked
+    ≡ walkFrom plan hyper rounds asked (suc (origin + rounds * hyper)) 0 origin 0
+    (record {
+      servers = fresh .servers;
+      left = fresh .left;
+      first = fresh .first;
+      count = fresh .count;
+      unfinished = fresh .unfinished;
+      unlinked = fresh .unlinked;
+      worst = fresh .worst;
+      next = fresh .next;
+    }) (keptOf fresh)
 unfolding walkOf
-from-here plan offsets origin hyper rounds asked t next round fresh st saved f e l =
-    let left : suc (origin + rounds * hyper) - t ≡ suc (origin + rounds * hyper - t) = omega arith in
-    rw (← f) (e ∙ rw left)
-
--- and past the last boundary nothing is left of it
-none-left : (plan : Plan) (hyper rounds asked t next round : ℕ) (st saved : State) → walkFrom plan hyper rounds asked 0 t next round st saved ≡ ended Unsettled t st
-unfolding walkFrom
-none-left plan hyper rounds asked t next round st saved = refl
-
-pub from-past : (plan : Plan) (offsets : List ℕ) (origin hyper rounds asked t next round : ℕ) (fresh st saved : State) → fresh ≡ freshState offsets
-    → walkFrom plan hyper rounds asked (suc (origin + rounds * hyper)) 0 origin 0 fresh fresh
-    ≡ walkFrom plan hyper rounds asked (suc (origin + rounds * hyper) - t) t next round st saved
-    → origin + rounds * hyper < t → walkOf plan offsets origin hyper rounds asked ≡ ended Unsettled t st
-unfolding walkOf
-from-past plan offsets origin hyper rounds asked t next round fresh st saved f e l =
-    let left : suc (origin + rounds * hyper) - t ≡ 0 = omega arith in
-    rw (← f) (e ∙ rw left (none-left plan hyper rounds asked t next round st saved))
-
--- one instant more
-pub one-more : (plan : Plan) (last hyper rounds asked t next round next′ round′ : ℕ) (whole : Walk) (st saved later saved′ : State)
-    → whole ≡ walkFrom plan hyper rounds asked (suc last - t) t next round st saved → t ≤ last
-    → walkFrom plan hyper rounds asked (suc (last - t)) t next round st saved ≡ walkFrom plan hyper rounds asked (last - t) (t + 1) next′ round′ later saved′
-    → whole ≡ walkFrom plan hyper rounds asked (suc last - (t + 1)) (t + 1) next′ round′ later saved′
-one-more plan last hyper rounds asked t next round next′ round′ whole st saved later saved′ e l f =
-    let left : suc last - t ≡ suc (last - t) = omega arith in
-    let less : suc last - (t + 1) ≡ last - t = omega arith in
-    rw less ((rw left at e) ∙ f)
+from-start plan offsets origin hyper rounds asked fresh e = rw e

@@ -57,7 +57,7 @@ pub fn walk_to(
     rounds: u32,
     asked: u32,
 ) -> Walk
-    requires { ⌜ (plan .processors ≤ Limits.processors .to) × (origin + rounds * hyper ≤ Limits.offset .to + Limits.rounds .to * Limits.hyperperiod .to) ⌝ }
+    requires { ⌜ (plan .processors ≤ Limits.processors .to) × (origin + rounds * hyper ≤ Limits.offset .to + Limits.rounds .to * Limits.hyperperiod .to) × (1 ≤ hyper) ⌝ }
     ensures { λ r. ⌜ r ≡ Mirror.walkOf plan offsets origin hyper rounds asked ⌝ }
 {
     let n = numbers::smaller(plan.nodes, Table::SERVERS);
@@ -87,11 +87,20 @@ pub fn walk_to(
     while t <= last {
         if t == boundary {
             if 0 < round
-                && comparing::same_counts(&count, &kept.count, n)
-                && comparing::same_counts(&unfinished, &kept.unfinished, n)
-                && comparing::same_counts(&unlinked, &kept.unlinked, n)
-                && comparing::same_phases(&next, &kept.next, hyper, n)
-                && comparing::same_left(&left, &kept.left, &count, n)
+                && comparing::same_numbers(
+                    &count,
+                    &kept.count,
+                    &unfinished,
+                    &kept.unfinished,
+                    &unlinked,
+                    &kept.unlinked,
+                    &next,
+                    &kept.next,
+                    &left,
+                    &kept.left,
+                    hyper,
+                    n,
+                )
                 && comparing::same_windows(servers, kept.servers, count, n)
             {
                 return ended(How::Settled(round), t, servers, first, count, worst);

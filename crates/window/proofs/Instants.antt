@@ -37,7 +37,7 @@ module _ (s : Server) (some : 0 < s .period) where
       let m : (k - 1) * s .period ≤ t - s .offset = le-div-iff-mul-le {k = s .period} some .0 (omega arith) in
       omega arith)
 
-  pub by-released : (t k : ℕ) → 1 ≤ k → releaseOf s k ≤ t → k ≤ released s t
+  by-released : (t k : ℕ) → 1 ≤ k → releaseOf s k ≤ t → k ≤ released s t
   unfolding released releaseOf
   by-released t k a b =
       let m : k - 1 ≤ (t - s .offset) / s .period = le-div-iff-mul-le {k = s .period} some .1 (omega arith) in

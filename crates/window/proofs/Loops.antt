@@ -48,11 +48,6 @@ module _ {A : Type 0} (f : ℕ → A) (xs : List A) where
   replaced-length zero = refl
   replaced-length (suc n) = length-set (replaced f xs n) n (f n) ∙ replaced-length n
 
-  pub replaced-out : (n i : ℕ) (d : A) → n ≤ i → getD (replaced f xs n) i d ≡ getD xs i d
-  unfolding replaced
-  replaced-out zero i d h = refl
-  replaced-out (suc n) i d h = getD-set-other (replaced f xs n) n i (f n) d (λ e. omega arith) ∙ replaced-out n i d (omega arith)
-
   pub replaced-in : (n i : ℕ) (d : A) → i < n → n ≤ length xs → getD (replaced f xs n) i d ≡ f i
   unfolding replaced
   replaced-in zero i d h g = absurd (not-suc-le-zero h)

@@ -2,7 +2,7 @@
 -- a tick at least, and it is quiet.
 use mathlib.Core.Path.{_≡_, sym, _∙_}
 use mathlib.Core.List.{List}
-use Prim.Native.Nat.{ℕ, zero, suc, _+_, _*_, _-_, _≤_, _<_, min}
+use Prim.Native.Nat.{ℕ, zero, suc, _+_, _*_, _-_, _≤_, _<_}
 use native.Mathlib.Nat.{le-refl, not-suc-le-zero}
 use native.Mathlib.Omega.{arith}
 use lib.Dec.{T}
@@ -18,7 +18,7 @@ use Rattle.window.specs.declared.Plan.{Plan}
 use Rattle.window.specs.Entries.{window, lastKey, countAt, leftAt, nodesOf}
 use Rattle.window.specs.Releasing.{earliest}
 use Rattle.window.specs.Choosing.{Picks, chosen}
-use Rattle.window.specs.Spending.{ticksTo, placeAt, lesser, leastLeft}
+use Rattle.window.specs.Spending.{firstOf, ticksTo, placeAt, lesser, leastLeft}
 use Rattle.window.specs.Working.{spanOf}
 use Rattle.window.proofs.Relation.{lastInstant, Fits, Released}
 use Rattle.window.proofs.Earliest.{earliest-after, earliest-release}
@@ -33,7 +33,7 @@ module _ (x least : ℕ) where
       (λ h. rw (le-ltb 0 x h) (le-refl least))
 
   lesser-own : 0 < x → lesser x least ≤ x
-  lesser-own h = rw (lt-ltb 0 x h) (by-lt x least (λ l. rw (lt-ltb x least l) (le-refl x)) (λ l. rw (le-ltb x least l) l))
+  lesser-own h = rw (lt-ltb 0 x h) (by-lt x least (λ l. rw (lt-ltb x least l) (omega arith)) (λ l. rw (le-ltb x least l) (omega arith)))
 
   lesser-some : 1 ≤ least → 1 ≤ lesser x least
   lesser-some s =
@@ -103,7 +103,7 @@ module _ (X : Box) (plan : Plan) (t : ℕ) (st : State) (fits : Fits X plan) (re
 
   module _ (boundary asked : ℕ) (later : t < boundary) (more : t < asked) where
     abbrev to : ℕ
-    to = min (min release boundary) asked
+    to = firstOf release boundary asked
 
     abbrev d : ℕ
     d = leastLeft (st .left) (c .at) (ticksTo t release boundary asked) (c .count)

@@ -3,7 +3,7 @@
 use mathlib.Core.Path.{_≡_, refl, sym, ap, _∙_}
 use mathlib.Core.Bool.{false}
 use mathlib.Core.List.{List}
-use Prim.Native.Nat.{ℕ, zero, suc, _+_, _*_, _-_, _≤_, _<_}
+use Prim.Native.Nat.{ℕ, zero, suc, _+_, _*_, _≤_, _<_}
 use native.Mathlib.Nat.{le-refl, not-suc-le-zero, mul-zero, mul-one}
 use native.Mathlib.Omega.{arith}
 use lib.Dec.{T}
@@ -21,7 +21,7 @@ use Rattle.table.specs.declared.State.{State}
 use Rattle.window.specs.declared.Plan.{Plan}
 use Rattle.window.specs.Entries.{window, countAt, leftAt}
 use Rattle.window.specs.Choosing.{Picks, chosen}
-use Rattle.window.specs.Spending.{placeAt, spent}
+use Rattle.window.specs.Spending.{placeAt, lessBy, spent}
 use Rattle.window.specs.Working.{withLeft}
 use Rattle.window.proofs.Relation.{lastInstant, Fits, Row, Sized, Released}
 use Rattle.window.proofs.Keys.{slotJob}
@@ -36,22 +36,22 @@ module _ (left at : List ℕ) (d : ℕ) where
   spent-length : (m : ℕ) → length (after m) ≡ length left
   unfolding spent
   spent-length zero = refl
-  spent-length (suc m) = length-set (after m) (placeAt at m) (getD (after m) (placeAt at m) 0 - d) ∙ spent-length m
+  spent-length (suc m) = length-set (after m) (placeAt at m) (lessBy (getD (after m) (placeAt at m) 0) d) ∙ spent-length m
 
   spent-other : (m j : ℕ) → ((r : ℕ) → r < m → j ≡ placeAt at r → ⊥) → getD (after m) j 0 ≡ getD left j 0
   unfolding spent
   spent-other zero j h = refl
   spent-other (suc m) j h =
-      getD-set-other (after m) (placeAt at m) j (getD (after m) (placeAt at m) 0 - d) 0 (h m (omega arith))
+      getD-set-other (after m) (placeAt at m) j (lessBy (getD (after m) (placeAt at m) 0) d) 0 (h m (omega arith))
       ∙ spent-other m j (λ r l. h r (omega arith))
 
   -- where no two of the first m stand at one place
   spent-in : (m r : ℕ) → r < m → ((a b : ℕ) → a < b → b < m → placeAt at a ≡ placeAt at b → ⊥) → ((a : ℕ) → a < m → placeAt at a < length left)
-      → getD (after m) (placeAt at r) 0 ≡ getD left (placeAt at r) 0 - d
+      → getD (after m) (placeAt at r) 0 ≡ lessBy (getD left (placeAt at r) 0) d
   unfolding spent
   spent-in zero r h apart inside = absurd (not-suc-le-zero h)
   spent-in (suc m) r h apart inside =
-      let v = getD (after m) (placeAt at m) 0 - d in
+      let v = lessBy (getD (after m) (placeAt at m) 0) d in
       by-lt r m
       (λ l. getD-set-other (after m) (placeAt at m) (placeAt at r) v 0 (apart r m l (omega arith))
       ∙ spent-in m r l (λ a b u w. apart a b u (omega arith)) (λ a u. inside a (omega arith)))
@@ -59,7 +59,7 @@ module _ (left at : List ℕ) (d : ℕ) where
       let e : r ≡ m = omega arith in
       rw e
       (getD-set-same (after m) (placeAt at m) v 0 (omega (arith, spent-length m, inside m (omega arith)))
-      ∙ ap (λ x. x - d) (spent-other m (placeAt at m) (λ a u z. apart a m u (omega arith) (sym z)))))
+      ∙ ap (λ x. lessBy x d) (spent-other m (placeAt at m) (λ a u z. apart a m u (omega arith) (sym z)))))
 
 -- the state whose budgets left are d less where a server job ran
 abbrev pub ranOn : Plan → ℕ → State → State
@@ -122,7 +122,7 @@ module _ (X : Box) (plan : Plan) (t : ℕ) (st : State) (fits : Fits X plan) (re
         }
 
     -- a slot that runs
-    fell : (i e : ℕ) → e < countAt st i → T (running S (X .cap) t i (c i + 1 + e)) → (leftAt ran i e ≡ leftAt st i e - d) × (d ≤ leftAt st i e)
+    fell : (i e : ℕ) → e < countAt st i → T (running S (X .cap) t i (c i + 1 + e)) → (leftAt ran i e ≡ lessBy (leftAt st i e) d) × (d ≤ leftAt st i e)
     fell i e l r =
         let a = runs-at X plan t st fits rel near i (c i + 1 + e) r in
         let b = a .entry in

@@ -6,10 +6,13 @@ use lib.Dec.{ltb}
 use lib.ListN.{getD, set}
 use Rattle.window.specs.Entries.{slots}
 
--- the ticks from t to the first of three instants; at least 1
+-- the first of three instants, and the ticks from t to it; at least 1
+abbrev pub firstOf : (release boundary asked : ℕ) → ℕ
+firstOf release boundary asked = min (min release boundary) asked
+
 abbrev pub ticksTo : (t release boundary asked : ℕ) → ℕ
 ticksTo t release boundary asked =
-    let to : ℕ = min (min release boundary) asked in
+    let to : ℕ = firstOf release boundary asked in
     cond (ltb t to) (to - t) 1
 
 -- the place in `left` of the r-th that runs
@@ -24,7 +27,11 @@ unfoldable pub leastLeft : (left at : List ℕ) → (most m : ℕ) → ℕ
 leastLeft left at most zero = most
 leastLeft left at most (suc r) = lesser (getD left (placeAt at r) 0) (leastLeft left at most r)
 
+-- a budget left, d ticks later
+abbrev pub lessBy : (x d : ℕ) → ℕ
+lessBy x d = x - d
+
 -- d ticks used by each of the first m that run
 unfoldable pub spent : (left at : List ℕ) → (d m : ℕ) → List ℕ
 spent left at d zero = left
-spent left at d (suc r) = set (spent left at d r) (placeAt at r) (getD (spent left at d r) (placeAt at r) 0 - d)
+spent left at d (suc r) = set (spent left at d r) (placeAt at r) (lessBy (getD (spent left at d r) (placeAt at r) 0) d)
