@@ -15,7 +15,7 @@ use Rattle.table.specs.declared.Table.{Table}
 use Rattle.table.specs.declared.Graph.{Graph}
 use Rattle.window.specs.Entries.{places}
 use Rattle.window.proofs.Loops.{replaced-length, replaced-in}
-use Rattle.reading.specs.Masks.{maskOf}
+use Rattle.scanning.specs.Masks.{maskOf}
 use Rattle.planning.specs.declared.plans.Entry.{Entry}
 use Rattle.planning.specs.Narrowing.{most16, most8}
 use Rattle.planning.specs.Places.{atPlaces}
