@@ -1,8 +1,8 @@
 -- One turn of each of the walk's inner loops: a server that releases, one that ran, and one whose window is kept; and what the loops come to.
-use mathlib.Core.Path.{_≡_, refl, sym, ap, _∙_}
+use mathlib.Core.Path.{_≡_, refl, sym, _∙_}
 use mathlib.Core.Bool.{Bool, true, false, _&&_, cond}
 use mathlib.Core.List.{List}
-use Prim.Native.Nat.{ℕ, zero, suc, _+_, _*_, _-_, _≤_, _<_, min}
+use Prim.Native.Nat.{ℕ, zero, suc, _+_, _*_, _-_, _≤_, _<_}
 use native.Mathlib.Numerals.{add-one}
 use native.Mathlib.Omega.{arith}
 use lib.Dec.{leb, ltb, eqb}
@@ -86,8 +86,7 @@ pub some-done : (left count : List ℕ) (i : ℕ) {x : Bool} → x ≡ doneAt le
 some-done left count i e h =
     let n : ℕ = getD count i 0 in
     let z : Bool = eqb (getD left (i * window) 0) 0 in
-    let t = true-T (ltb 0 n && (leb n window && z)) (sym e ∙ h) in
-    (
+    let t = true-T (ltb 0 n && (leb n window && z)) (sym e ∙ h) in (
       ltb-true 0 n (T-true (and-l (ltb 0 n) (leb n window && z) t)),
       leb-true n window (T-true (and-l (leb n window) z (and-r (ltb 0 n) (leb n window && z) t))),
     )
@@ -144,13 +143,13 @@ keptTo st kept j =
 
 module _ (st : State) (kept : Kept) (j : ℕ) (k : Kept) (e : k ≡ keptTo st kept j) where
   pub keeps-more : _≡_ {A = Kept} (record {
-        servers = set (k .servers) j (serverAt st j);
-        left = k .left;
-        count = k .count;
-        unfinished = k .unfinished;
-        unlinked = k .unlinked;
-        next = k .next;
-      }) (keptTo st kept (j + 1))
+    servers = set (k .servers) j (serverAt st j);
+    left = k .left;
+    count = k .count;
+    unfinished = k .unfinished;
+    unlinked = k .unlinked;
+    next = k .next;
+  }) (keptTo st kept (j + 1))
   unfolding replaced
   keeps-more = rw (add-one j, e)
 
