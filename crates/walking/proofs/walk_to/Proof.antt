@@ -15,7 +15,7 @@ use Rattle.window.specs.Choosing.{placeOf}
 use Rattle.window.specs.Finishing.{finishAt}
 use Rattle.window.proofs.LoopLaws.{turn-more}
 use Rattle.walking.proofs.Steps.{settles, ends-unsettled, ends-in-backlog, reaches, goes-on, one-more}
-use Rattle.walking.proofs.Turns.{stateOf, releases-none, releases-one, finishes-none, finishes-one, some-done, span-is, worked-all, keeps-more, kept-at-first}
+use Rattle.walking.proofs.Turns.{stateOf, releases-none, releases-one, finishes-none, windows-shifted, windows-kept, finishes-one, some-done, span-is, worked-all, keeps-more, kept-at-first}
 use Rattle.walking.proofs.Bounds.{not-past}
 use Rattle.walking.proofs.walk_to.Proof.Loops.{I₂, μ₂, I₃, μ₃, I₄, μ₄, I, μ}
 use Rattle.walking.proofs.walk_to.Proof.Places.{fresh-of, plan, n, origin, hyper, rounds, asked, last, st, all-places, events, whole, differs, passed, ahead, place, room, now, went, next-release, released-of, few, chosen-of, span, end-within}
@@ -192,7 +192,11 @@ loop4-again c =
       turn-more (λ (v : State) (r : ℕ). finishAt (plan i) now v (placeOf (getD run r 0))) _ (x .loop4 .r) (x .loop4 .inv .1)
           (⊎-elim
           (λ w.
-          finishes-one (plan i) now u k (q .is-done .ensures) (w .0 .taken) (w .8 .ensures) (w .4 .ensures) (w .14) (w .15 ∙ w .13 .ensures .0)
+          finishes-one (plan i) now u k (q .is-done .ensures) (w .0 .taken) (w .4 .ensures)
+          (w .14
+          ∙ ⊎-elim (λ z. windows-shifted u k (z .0 .taken) (z .1 .ensures) (z .2)) (λ z. windows-kept u k (z .0 .left) (z .1))
+          (w .8 .came))
+          (w .15 ∙ w .13 .ensures .0)
           (w .16 ∙ w .13 .ensures .1 .0) (w .17 ∙ w .13 .ensures .1 .1) (w .18 ∙ w .7 .ensures .0) (w .19 ∙ w .7 .ensures .1))
           (λ w. finishes-none (plan i) now u k (q .is-done .ensures) (w .0 .left) (w .1) (w .2) (w .3) (w .4) (w .5) (w .6))
           (c .if10 .came)),
@@ -294,6 +298,7 @@ walk-to-spec =
     plain.element-copy-out-response-of
     plain.response-of-requires
     plain.count-finish-requires
+    plain.array-read-if11
     plain.shifted-requires
     plain.mul-servers-2
     plain.array-set-from-servers-2

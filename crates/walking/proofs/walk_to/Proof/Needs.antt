@@ -150,6 +150,9 @@ response-of-requires c κs = search needs
 pub count-finish-requires : tie.Need-count-finish-requires I₂ μ₂ I₃ μ₃ I₄ μ₄ I μ
 count-finish-requires c κs = search needs
 
+pub array-read-if11 : tie.Need-array-read-if11 I₂ μ₂ I₃ μ₃ I₄ μ₄ I μ
+array-read-if11 c = search needs
+
 pub shifted-requires : tie.Need-shifted-requires I₂ μ₂ I₃ μ₃ I₄ μ₄ I μ
 shifted-requires c κs = search needs
 
