@@ -3,6 +3,7 @@
 use crate::Pace;
 use crate::engine::Engine;
 use crate::table::Table;
+use crate::tuned::Tuned;
 use crate::walk::{End, walk};
 use crate::writer::{self, Text};
 
@@ -25,9 +26,20 @@ pub fn report(pace: Pace, table: &[u8], buffer: &mut [u8]) -> Answer {
         Ok(judged) => judged,
         Err(refusal) => return refusal,
     };
-    let mut engine = Engine::new(&table);
-    match walk_at(pace, &mut engine, hyperperiod, None) {
-        End::Settled { round } => lend(&writer::report(&engine, round), buffer),
+    let (end, ticks, figures) = match pace {
+        Pace::Tuned => {
+            let mut tuned = Tuned::new(&table);
+            let end = tuned.walk(table.largest_offset(), hyperperiod, None);
+            (end, tuned.now, tuned.figures(&table))
+        }
+        _ => {
+            let mut engine = Engine::new(&table);
+            let end = walk_at(pace, &mut engine, hyperperiod, None);
+            (end, engine.now, engine.figures)
+        }
+    };
+    match end {
+        End::Settled { round } => lend(&writer::report(round, ticks, &figures[..table.graph_count]), buffer),
         End::Unsettled => Answer::refusal(8, 0),
         End::Backlog | End::Asked => Answer::refusal(7, 0),
     }
@@ -40,9 +52,20 @@ pub fn row(pace: Pace, table: &[u8], instant: u64, buffer: &mut [u8]) -> Answer 
     };
     // No walk reaches an instant that needs more than 32 bits.
     let Ok(asked) = u32::try_from(instant) else { return Answer::refusal(9, 0) };
-    let mut engine = Engine::new(&table);
-    match walk_at(pace, &mut engine, hyperperiod, Some(asked)) {
-        End::Asked => lend(&writer::row(&engine), buffer),
+    let (end, text) = match pace {
+        Pace::Tuned => {
+            let mut tuned = Tuned::new(&table);
+            let end = tuned.walk(table.largest_offset(), hyperperiod, Some(asked));
+            (end, writer::row(tuned.runs(&table)))
+        }
+        _ => {
+            let mut engine = Engine::new(&table);
+            let end = walk_at(pace, &mut engine, hyperperiod, Some(asked));
+            (end, writer::row(engine.runs()))
+        }
+    };
+    match end {
+        End::Asked => lend(&text, buffer),
         _ => Answer::refusal(9, 0),
     }
 }
@@ -50,7 +73,7 @@ pub fn row(pace: Pace, table: &[u8], instant: u64, buffer: &mut [u8]) -> Answer 
 fn walk_at(pace: Pace, engine: &mut Engine, hyperperiod: u32, asked: Option<u32>) -> End {
     match pace {
         Pace::Tick => walk::<false>(engine, hyperperiod, asked),
-        Pace::Event => walk::<true>(engine, hyperperiod, asked),
+        Pace::Event | Pace::Tuned => walk::<true>(engine, hyperperiod, asked),
     }
 }
 

@@ -3,6 +3,7 @@
 use crate::chosen::{Chosen, Ready};
 use crate::table::{Graph, Table};
 use crate::window::{Pending, Server};
+use crate::writer::Run;
 
 /// Where a graph stands in time.
 #[derive(Clone, Copy, Default)]
@@ -140,5 +141,17 @@ impl<'a> Engine<'a> {
             phase.until -= distance;
         }
         self.now += distance;
+    }
+
+    /// The chosen, as a row shows them.
+    pub fn runs(&self) -> impl Iterator<Item = Run> {
+        self.chosen.entries().iter().map(|run| {
+            let (graph, place, slot) = (run.graph as usize, run.place as usize, run.slot as usize);
+            let pending = self.pending(run);
+            let number = self.phases[graph].released - (self.servers[place].count - 1 - slot) as u32;
+            let invocation = if pending.linked { number - pending.behind } else { 0 };
+            let node = (place - self.table.graphs[graph].first) as u32 + 1;
+            Run { graph: graph as u32 + 1, node, number, invocation }
+        })
     }
 }

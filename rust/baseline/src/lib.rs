@@ -1,15 +1,16 @@
 //! Plain safe Rust engines for the benchmark.
 //!
-//! Both keep a window of at most 16 pending server jobs per server. `Tick`
+//! Each keeps a window of at most 16 pending server jobs per server. `Tick`
 //! walks tick by tick; `Event` jumps to the next release or completion. They
 //! share every part but the length of a step, so that the ratio between them
-//! measures just that.
+//! measures just that. `Tuned` jumps too, with every trick of the proved engine.
 //!
 //! - `table`, `reader`: the table in fixed arrays, read from bytes;
 //! - `window`: one server's pending server jobs;
 //! - `chosen`: the server jobs that run;
 //! - `engine`: one step of the schedule;
 //! - `walk`: boundaries and the stop;
+//! - `tuned`: the engine and the walk of `Tuned`;
 //! - `writer`: the text of an answer;
 //! - `call`: the two calls with a lent buffer.
 #![forbid(unsafe_code)]
@@ -19,6 +20,7 @@ mod chosen;
 mod engine;
 mod reader;
 mod table;
+mod tuned;
 mod walk;
 mod window;
 mod writer;
@@ -30,4 +32,5 @@ pub use call::{Answer, report, row};
 pub enum Pace {
     Tick,
     Event,
+    Tuned,
 }

@@ -1,7 +1,5 @@
 //! The text of an answer, gathered in an array that holds the longest.
 
-use crate::engine::Engine;
-
 /// Eight lines of `run=8,16,1290000,1290000` or of `response=1290000` after
 /// the three first lines of a report stay below this.
 const LONGEST: usize = 256;
@@ -39,31 +37,36 @@ impl Text {
     }
 }
 
-pub fn report(engine: &Engine, round: u32) -> Text {
+pub fn report(round: u32, ticks: u32, figures: &[u32]) -> Text {
     let mut text = Text::new();
     text.put_line(b"answer=", 0);
     text.put_line(b"round=", round);
-    text.put_line(b"ticks=", engine.now);
-    for &figure in &engine.figures[..engine.table.graph_count] {
+    text.put_line(b"ticks=", ticks);
+    for &figure in figures {
         text.put_line(b"response=", figure);
     }
     text
 }
 
-pub fn row(engine: &Engine) -> Text {
+/// A running server job, as a row shows it.
+pub struct Run {
+    pub graph: u32,
+    pub node: u32,
+    pub number: u32,
+    /// 0 for an unlinked one.
+    pub invocation: u32,
+}
+
+pub fn row(runs: impl Iterator<Item = Run>) -> Text {
     let mut text = Text::new();
-    for run in engine.chosen.entries() {
-        let (graph, place, slot) = (run.graph as usize, run.place as usize, run.slot as usize);
-        let server = &engine.servers[place];
-        let pending = engine.pending(run);
-        let number = engine.phases[graph].released - (server.count - 1 - slot) as u32;
+    for run in runs {
         text.put(b"run=");
-        text.put_number(graph as u32 + 1);
+        text.put_number(run.graph);
         text.put(b",");
-        text.put_number((place - engine.table.graphs[graph].first) as u32 + 1);
+        text.put_number(run.node);
         text.put(b",");
-        text.put_number(number);
-        text.put_line(b",", if pending.linked { number - pending.behind } else { 0 });
+        text.put_number(run.number);
+        text.put_line(b",", run.invocation);
     }
     text
 }

@@ -1,8 +1,8 @@
-//! The worked tables of document 01 through both paces, and lent buffers.
+//! The worked tables of document 01 at each pace, and lent buffers.
 
 use baseline::{Answer, Pace, report, row};
 
-const PACES: [Pace; 2] = [Pace::Tick, Pace::Event];
+const PACES: [Pace; 3] = [Pace::Tick, Pace::Event, Pace::Tuned];
 
 /// One graph: processors, rounds, period, and nodes as budget, level, after.
 fn one(processors: u32, rounds: u32, period: u32, nodes: &[(u32, u32, &str)]) -> String {
@@ -21,7 +21,7 @@ fn graph(period: u32, offset: u32, nodes: &[(u32, u32, &str)]) -> String {
 
 /// The text answered, or the number and line of the refusal.
 fn told(call: impl Fn(Pace, &mut [u8]) -> Answer) -> Result<String, (u32, u32)> {
-    let [tick, event] = PACES.map(|pace| {
+    let [tick, event, tuned] = PACES.map(|pace| {
         let mut buffer = [0xee; 300];
         let answer = call(pace, &mut buffer);
         assert!(buffer[answer.length..].iter().all(|&byte| byte == 0xee));
@@ -29,6 +29,7 @@ fn told(call: impl Fn(Pace, &mut [u8]) -> Answer) -> Result<String, (u32, u32)> 
         if answer.number == 0 { Ok(text) } else { Err((answer.number, answer.line)) }
     });
     assert_eq!(tick, event);
+    assert_eq!(tick, tuned);
     tick
 }
 

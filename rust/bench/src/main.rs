@@ -1,6 +1,6 @@
 //! Times the report of each library on the same tables in one run, and prints
-//! ratios against the plain engine that walks tick by tick; then the stack
-//! that each library's calls need.
+//! ratios against the better of the plain engines that go from event to event;
+//! then the stack that each library's calls need.
 //!
 //! `bench [samples]`; build with `--release`, and with `--features proved` to
 //! time the proved library too.
@@ -30,13 +30,14 @@ fn main() -> ExitCode {
     }
     let libraries: Vec<Box<dyn Library>> = names().iter().filter_map(|name| by_name(name)).collect();
     println!(
-        "ns/call is the best of {samples} samples; ratio is against {}; noise is middle by best",
-        print::AGAINST
+        "ns per call, best of {samples} samples; ratio: the first library by the better rival; noise: middle by best"
     );
     let sections = [
         ("Document 01's tables", tables::document()),
+        ("An event in every tick", tables::busy()),
         ("The largest walks", tables::largest()),
         ("A typical box", tables::turbine()),
+        ("All budgets, periods and offsets times 10", tables::times_ten()),
         ("Growth with ticks (32 nodes, 8 processors)", tables::by_ticks()),
         ("Growth with nodes (8 processors)", tables::by_nodes()),
         ("Growth with processors (32 nodes)", tables::by_processors()),

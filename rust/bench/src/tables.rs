@@ -52,12 +52,49 @@ pub fn document() -> Vec<Case> {
     ]
 }
 
+/// Periods 1 and 2, so that something happens in every tick.
+pub fn busy() -> Vec<Case> {
+    let table = |processors, graphs| Table { processors, rounds: 64, graphs };
+    let pairs = (0..14).map(|index| chain(2, index % 2, 1, &[1, 1]));
+    vec![
+        Case::new(
+            "5 nodes",
+            &table(3, vec![chain(1, 0, 1, &[1]), chain(2, 0, 1, &[1, 1]), chain(2, 1, 1, &[1, 1])]),
+        ),
+        Case::new(
+            "levels 2 to 4",
+            &table(8, vec![chain(2, 0, 3, &[3, 3]), chain(1, 0, 4, &[2]), chain(2, 1, 2, &[3])]),
+        ),
+        Case::new(
+            "8 graphs, 15 nodes",
+            &table(8, {
+                let mut graphs = vec![chain(1, 0, 1, &[1])];
+                graphs.extend(pairs.take(7));
+                graphs
+            }),
+        ),
+    ]
+}
+
 /// The longest walks there are.
 pub fn largest() -> Vec<Case> {
     vec![
         Case { name: "settled at round 64".into(), text: LARGEST.to_vec() },
         Case::new("unsettled after 64", &drifting(8, 4, 64)),
     ]
+}
+
+/// The same events at ten times the distance.
+pub fn times_ten() -> Vec<Case> {
+    let table = |scale: u32| {
+        let graphs = vec![
+            chain(200 * scale, 0, 1, &[8, 24, 30, 12, 6].map(|budget| budget * scale)),
+            chain(400 * scale, 20 * scale, 1, &[20, 60, 90, 15].map(|budget| budget * scale)),
+            chain(800 * scale, 50 * scale, 2, &[300, 500].map(|budget| budget * scale)),
+        ];
+        Table { processors: 2, rounds: 64, graphs }
+    };
+    vec![Case::new("as it is", &table(1)), Case::new("times 10", &table(10))]
 }
 
 /// A box as it may stand in a turbine: four processors, ticks of 50

@@ -1,7 +1,7 @@
 //! The tables are what the benchmark says they are.
 
 use bench::measure::ticks;
-use bench::tables::{Case, by_nodes, by_processors, by_ticks, document, largest, turbine};
+use bench::tables::{Case, busy, by_nodes, by_processors, by_ticks, document, largest, times_ten, turbine};
 use simulator::question::judge;
 use simulator::{Reply, Table, report};
 
@@ -26,6 +26,20 @@ fn the_box_settles() {
     for case in turbine() {
         assert!(matches!(report(&case.text), Reply::Text(_)), "{:?}", report(&case.text));
     }
+}
+
+#[test]
+fn something_happens_in_every_tick() {
+    for case in busy() {
+        assert!(values(&case).graphs.iter().all(|graph| graph.period <= 2), "{}", case.name);
+        assert!(matches!(report(&case.text), Reply::Text(_)), "{}", case.name);
+    }
+}
+
+#[test]
+fn ten_times_the_ticks() {
+    let walked: Vec<u32> = times_ten().iter().map(ticks).collect();
+    assert_eq!(walked[1], 10 * walked[0]);
 }
 
 #[test]

@@ -18,6 +18,7 @@ impl Library for Plain {
         match self.0 {
             Pace::Tick => "tick",
             Pace::Event => "event",
+            Pace::Tuned => "tuned",
         }
     }
 
@@ -55,13 +56,14 @@ impl Library for Proved {
 
 /// The names `by_name` knows, the default first.
 pub fn names() -> &'static [&'static str] {
-    if cfg!(feature = "proved") { &["proved", "tick", "event"] } else { &["tick", "event"] }
+    if cfg!(feature = "proved") { &["proved", "tick", "event", "tuned"] } else { &["tick", "event", "tuned"] }
 }
 
 pub fn by_name(name: &str) -> Option<Box<dyn Library>> {
     match name {
         "tick" => Some(Box::new(Plain(Pace::Tick))),
         "event" => Some(Box::new(Plain(Pace::Event))),
+        "tuned" => Some(Box::new(Plain(Pace::Tuned))),
         #[cfg(feature = "proved")]
         "proved" => Some(Box::new(Proved)),
         _ => None,
