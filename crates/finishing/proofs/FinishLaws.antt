@@ -7,7 +7,7 @@ use Prim.Native.Nat.{ℕ, suc, _+_, _≤_, _<_}
 use native.Mathlib.Numerals.{add-one}
 use lib.ListN.{getD, set}
 use borrow.Author.Tests.{lt-ltb, le-ltb}
-use Rattle.rules.proofs.Tests.{either-way}
+use Rattle.schedule.proofs.Tests.{either-way}
 use Rattle.table.specs.declared.Server.{Server}
 use Rattle.window.specs.Entries.{lastKey, further, slotOf}
 use Rattle.window.specs.Loops.{replaced}

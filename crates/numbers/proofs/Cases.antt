@@ -2,7 +2,7 @@
 use mathlib.Core.Path.{_≡_, refl}
 use Prim.Native.Nat.{ℕ, zero, suc, _<_}
 use native.Mathlib.Omega.{arith}
-pub use Rattle.rules.proofs.Tests.{by-test}
+pub use Rattle.schedule.proofs.Tests.{by-test}
 
 pub by-digit : {C : Type 0} (x : ℕ) → x < 2 → (x ≡ 0 → C) → (x ≡ 1 → C) → C
 by-digit zero h f g = f refl

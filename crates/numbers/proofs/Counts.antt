@@ -9,7 +9,7 @@ use lib.Count as Machine
 use lib.Dec.{eqb}
 use lib.Pow.{shr-shr}
 use borrow.Author.Tests.{eq-eqb, ne-eqb, eqb-true, eqb-false}
-use Rattle.rules.specs.Lists.{one?, count, numbers}
+use Rattle.schedule.specs.Lists.{one?, count, numbers}
 use Rattle.numbers.specs.Masks.{width, bit, without, ones, lowestFrom, lowest}
 use Rattle.numbers.proofs.Cases.{by-test, by-digit}
 use Rattle.numbers.proofs.MaskLaws.{bit-without, lowest-set, lowest-below}

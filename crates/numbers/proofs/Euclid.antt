@@ -3,8 +3,8 @@ use mathlib.Core.Path.{_≡_, refl, subst}
 use Prim.Native.Nat.{ℕ, zero, suc, _*_, _/_, _%_, _<_, _≤_}
 use native.Mathlib.Nat.{mod-lt, zero-lt-suc, not-suc-le-zero, le-refl, mul-le-mul-left, div-mul-cancel, le-of-dvd}
 use native.Mathlib.Omega.{arith}
-use Rattle.rules.specs.Table.{euclid, gcd, lcm}
-use Rattle.rules.proofs.Hyperperiod.{gcd-divides}
+use Rattle.schedule.specs.Table.{euclid, gcd, lcm}
+use Rattle.theorems.proofs.Hyperperiod.{gcd-divides}
 
 fuel : (n m a b : ℕ) → b ≤ n → b ≤ m → euclid n a b ≡ euclid m a b
 unfolding euclid

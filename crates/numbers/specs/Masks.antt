@@ -3,7 +3,7 @@ use mathlib.Core.Bool.{Bool, cond}
 use Prim.Native.Nat.{ℕ, zero, suc, _-_, _/_, _%_, _^_}
 use lib.Bits.{bitAnd, bitOr, bitXor}
 use lib.Dec.{ltb, eqb}
-use Rattle.rules.specs.Lists.{count, numbers}
+use Rattle.schedule.specs.Lists.{count, numbers}
 
 abbrev pub width : ℕ
 width = 32

@@ -1,6 +1,6 @@
 // The greatest common divisor by Euclid's rule, and the step of the least common multiple.
 ghost use mathlib.Core.Path.{_≡_};
-ghost use Rattle.rules.specs.Table as Rules;
+ghost use Rattle.schedule.specs.Table as Rules;
 ghost use Rattle.numbers.specs.Multiples.{multipleWithin};
 
 // A multiple that is at most a bound; or one past it.

@@ -9,8 +9,8 @@ use lib.ListN.{length, drop, length-append}
 use lib.Dec.{T}
 use Rattle.rules.specs.declared.Answer.{Answer}
 use Rattle.rules.specs.declared.Answer.the-variants.{Text, Refused}
-use Rattle.rules.specs.declared.Refusal.{Refusal}
-use Rattle.rules.specs.declared.Refusal.the-variants.{TooLong}
+use Rattle.format.specs.declared.Refusal.{Refusal}
+use Rattle.format.specs.declared.Refusal.the-variants.{TooLong}
 use Rattle.rules.specs.Answers.{Reply, says, refuses, printed, reportOf, rowOf, fitted, Call, left, callOf}
 use Rattle.writing.specs.Written.{Written}
 use Rattle.writing.specs.Lengths.{longestReport, longestRow}

@@ -6,16 +6,16 @@ use Prim.Native.Nat.{_+_, _*_, _≤_, _<_}
 use native.Mathlib.Nat.{le-trans, mul-le-mul-left, mul-le-mul-right}
 use native.Mathlib.Omega.{arith}
 use lib.Dec.{T}
-use Rattle.rules.specs.Limits as Limits
-use Rattle.rules.specs.Lists.{largest, all?}
-use Rattle.rules.specs.Table as Rules
-use Rattle.rules.specs.Table.{hyperperiod, largestOffset}
-use Rattle.rules.specs.Servers.{boxOf}
-use Rattle.rules.specs.WellFormed.{graphFormed, wellFormed}
-use Rattle.rules.proofs.Formed.{first-of, second-of, within-limits, graph-formed, table-formed}
-use Rattle.rules.proofs.FormedGraphs.{formed}
-use Rattle.rules.proofs.Hyperperiod.{hyperperiod-some}
-use Rattle.rules.proofs.Tests.{T-true}
+use Rattle.schedule.specs.Limits as Limits
+use Rattle.schedule.specs.Lists.{largest, all?}
+use Rattle.schedule.specs.Table as Rules
+use Rattle.schedule.specs.Table.{hyperperiod, largestOffset}
+use Rattle.schedule.specs.Servers.{boxOf}
+use Rattle.schedule.specs.WellFormed.{graphFormed, wellFormed}
+use Rattle.theorems.proofs.Formed.{first-of, second-of, within-limits, graph-formed, table-formed}
+use Rattle.theorems.proofs.FormedGraphs.{formed}
+use Rattle.theorems.proofs.Hyperperiod.{hyperperiod-some}
+use Rattle.schedule.proofs.Tests.{T-true}
 use Rattle.window.proofs.Relation.{lastInstant}
 
 offsets-most : (Gs : List Rules.Graph) → all? graphFormed Gs ≡ true → largest (λ (G : Rules.Graph). G .offset) Gs ≤ Limits.offset .to

@@ -8,8 +8,8 @@ use native.Mathlib.Omega.{arith}
 use lib.Dec.{eqb}
 use lib.ListN.{length, getD, replicate, length-replicate}
 use borrow.Author.Tests.{eq-eqb, ne-eqb, lt-ltb}
-use Rattle.rules.specs.Limits as Limits
-use Rattle.rules.specs.Table as Rules
+use Rattle.schedule.specs.Limits as Limits
+use Rattle.schedule.specs.Table as Rules
 use Rattle.rules.proofs.ReadWellFormed.{nodesIn}
 use Rattle.table.specs.declared.Table.{Table}
 use Rattle.table.specs.declared.Graph.{Graph}

@@ -7,14 +7,14 @@ use native.Mathlib.Omega.{arith}
 use lib.Dec.{T, ltb}
 use lib.ListN.{length, getD, take}
 use lib.Seq.{take-suc, take-length}
-use Rattle.rules.specs.Limits as Limits
-use Rattle.rules.specs.Lists.{all?, largest}
-use Rattle.rules.specs.Table as Rules
-use Rattle.rules.specs.Table.{largestOffset}
-use Rattle.rules.specs.Servers.{Server, boxOf, srv}
-use Rattle.rules.specs.WellFormed.{wellFormed}
-use Rattle.rules.proofs.Formed.{within-limits, table-formed}
-use Rattle.rules.proofs.Tests.{T-true, true-T}
+use Rattle.schedule.specs.Limits as Limits
+use Rattle.schedule.specs.Lists.{all?, largest}
+use Rattle.schedule.specs.Table as Rules
+use Rattle.schedule.specs.Table.{largestOffset}
+use Rattle.schedule.specs.Servers.{Server, boxOf, srv}
+use Rattle.schedule.specs.WellFormed.{wellFormed}
+use Rattle.theorems.proofs.Formed.{within-limits, table-formed}
+use Rattle.schedule.proofs.Tests.{T-true, true-T}
 use Rattle.table.specs.Fresh as Fresh
 use Rattle.window.specs.Entries.{places}
 use Rattle.window.proofs.Relation.{Fits}

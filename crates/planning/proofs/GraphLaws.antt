@@ -5,8 +5,8 @@ use native.Mathlib.Numerals.{add-one}
 use native.Mathlib.Omega.{arith}
 use lib.Dec.{ltb}
 use borrow.Author.Tests.{ltb-true}
-use Rattle.rules.specs.Limits as Limits
-use Rattle.rules.proofs.Tests.{by-test}
+use Rattle.schedule.specs.Limits as Limits
+use Rattle.schedule.proofs.Tests.{by-test}
 use Rattle.table.specs.declared.Table.{Table}
 use Rattle.table.specs.declared.Graph.{Graph}
 use Rattle.planning.specs.Graphs.{lastAt, nextGraph, graphIn, graphTo}

@@ -7,12 +7,12 @@ use Prim.Native.Nat.{ℕ, zero, suc, _+_, _-_, _≤_, _<_}
 use native.Mathlib.Nat.{not-suc-le-zero}
 use native.Mathlib.Omega.{arith}
 use lib.ListN.{length, getD}
-use Rattle.rules.specs.Limits as Limits
-use Rattle.rules.specs.Lists.{any?, all?, numbers}
-use Rattle.rules.specs.Table.{Node, Graph}
-use Rattle.rules.specs.WellFormed.{within, orderly, nodesFormed}
-use Rattle.rules.proofs.Formed.{first-of, second-of, node-formed}
-use Rattle.rules.proofs.Tests.{by-lt}
+use Rattle.schedule.specs.Limits as Limits
+use Rattle.schedule.specs.Lists.{any?, all?, numbers}
+use Rattle.schedule.specs.Table.{Node, Graph}
+use Rattle.schedule.specs.WellFormed.{within, orderly, nodesFormed}
+use Rattle.theorems.proofs.Formed.{first-of, second-of, node-formed}
+use Rattle.schedule.proofs.Tests.{by-lt}
 use Rattle.numbers.proofs.Cases.{by-test}
 use Rattle.rules.proofs.ReadWellFormed.{nodesIn}
 

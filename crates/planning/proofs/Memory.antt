@@ -6,12 +6,12 @@ use native.Mathlib.Nat.{not-suc-le-zero}
 use native.Mathlib.Omega.{arith}
 use lib.ListN.{length, getD, set, length-set, length-map}
 use lib.Seq.{sets, length-sets, getD-set-same}
-use Rattle.rules.specs.Limits as Limits
-use Rattle.rules.specs.Table as Rules
+use Rattle.schedule.specs.Limits as Limits
+use Rattle.schedule.specs.Table as Rules
 use Rattle.table.specs.declared.Table.{Table}
 use Rattle.table.specs.declared.Graph.{Graph}
 use Rattle.table.specs.Fresh as Fresh
-use Rattle.rules.proofs.Cells.{getD-map}
+use Rattle.schedule.proofs.Cells.{getD-map}
 use Rattle.reading.proofs.MemoryLaws.{sets-before, graphs-counted, graph-stays, node-stays}
 use Rattle.reading.specs.Memory.{codedNode, withGraph, withGraphs, memoryOf}
 use Rattle.rules.proofs.ReadWellFormed.{nodesIn}

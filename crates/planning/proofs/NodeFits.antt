@@ -8,15 +8,15 @@ use native.Mathlib.Omega.{arith}
 use lib.Dec.{T, leb, ltb, eqb, ltb→lt}
 use lib.ListN.{length}
 use borrow.Author.Tests.{le-leb, eqb-false}
-use Rattle.rules.specs.Limits as Limits
-use Rattle.rules.specs.Lists.{any?}
-use Rattle.rules.specs.Table as Rules
-use Rattle.rules.specs.Servers.{Server, boxOf, srv}
-use Rattle.rules.specs.WellFormed.{orderly, followed, allFollowed, graphFormed, wellFormed}
-use Rattle.rules.proofs.Formed.{within-limits, GraphFormed, graph-formed, TableFormed, table-formed}
-use Rattle.rules.proofs.FormedGraphs.{below, orderly-below}
-use Rattle.rules.proofs.TableBox.{server-fits}
-use Rattle.rules.proofs.Tests.{and-r, T-true, true-T}
+use Rattle.schedule.specs.Limits as Limits
+use Rattle.schedule.specs.Lists.{any?}
+use Rattle.schedule.specs.Table as Rules
+use Rattle.schedule.specs.Servers.{Server, boxOf, srv}
+use Rattle.schedule.specs.WellFormed.{orderly, followed, allFollowed, graphFormed, wellFormed}
+use Rattle.theorems.proofs.Formed.{within-limits, GraphFormed, graph-formed, TableFormed, table-formed}
+use Rattle.theorems.proofs.FormedGraphs.{below, orderly-below}
+use Rattle.theorems.proofs.TableBox.{server-fits}
+use Rattle.schedule.proofs.Tests.{and-r, T-true, true-T}
 use Rattle.numbers.specs.Masks.{width, bit}
 use Rattle.numbers.proofs.Cases.{by-test}
 use Rattle.table.specs.declared.Table.{Table}
@@ -33,7 +33,7 @@ use Rattle.planning.specs.Plans.{planTo, planOf}
 use Rattle.planning.proofs.PlaceLaws.{at-places-bit}
 use Rattle.rules.proofs.ReadWellFormed.{nodesIn}
 use Rattle.planning.proofs.Located.{noNode, noGraph, graphAt, nodeAt, firstOf, first-within, all-at, all-numbers, some-at, NodeFormed, node-at}
-use Rattle.rules.specs.Servers.{serverOf}
+use Rattle.schedule.specs.Servers.{serverOf}
 use Rattle.planning.proofs.Servers.{servers-length, server-at, sink-at, predecessor-at}
 use Rattle.planning.proofs.Memory.{LaidOut, laid-out}
 use Rattle.planning.proofs.Entries.{plan-entry, period-entry, graph-entry}

@@ -10,9 +10,9 @@ use lib.Dec.{leb, ltb, eqb}
 use lib.ListN.{length, getD, length-append, List·getD-append}
 use lib.Seq.{getD-append-add}
 use borrow.Author.Tests.{eq-eqb, ne-eqb, eqb-true, eqb-false, leb-true, leb-false, lt-ltb}
-use Rattle.rules.specs.Lists.{any?, all?}
-use Rattle.rules.specs.Table.{Node, Graph}
-use Rattle.rules.specs.Servers.{noServer, serverOf, ofNodes, ofGraphs, sinksOf, srv}
+use Rattle.schedule.specs.Lists.{any?, all?}
+use Rattle.schedule.specs.Table.{Node, Graph}
+use Rattle.schedule.specs.Servers.{noServer, serverOf, ofNodes, ofGraphs, sinksOf, srv}
 use Rattle.numbers.proofs.Cases.{by-test}
 use Rattle.reading.proofs.Successors.{Fits}
 use Rattle.rules.proofs.ReadWellFormed.{nodesIn}

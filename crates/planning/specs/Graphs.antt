@@ -3,7 +3,7 @@ use mathlib.Core.Bool.{Bool, _&&_, cond}
 use Prim.Native.Nat.{ℕ, zero, suc, _+_, _-_, min}
 use lib.Dec.{ltb, eqb}
 use lib.ListN.{getD}
-use Rattle.rules.specs.Limits as Limits
+use Rattle.schedule.specs.Limits as Limits
 use Rattle.table.specs.declared.Table.{Table}
 use Rattle.table.specs.declared.Graph.{Graph}
 use Rattle.table.specs.Fresh.{noGraph}

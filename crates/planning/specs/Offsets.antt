@@ -2,7 +2,7 @@
 use mathlib.Core.List.{List}
 use Prim.Native.Nat.{ℕ, zero, suc, min, max}
 use lib.ListN.{replicate}
-use Rattle.rules.specs.Limits as Limits
+use Rattle.schedule.specs.Limits as Limits
 use Rattle.table.specs.declared.Table.{Table}
 use Rattle.window.specs.Entries.{places}
 use Rattle.window.specs.Loops.{replaced}

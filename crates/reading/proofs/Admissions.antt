@@ -7,13 +7,13 @@ use native.Mathlib.Nat.{le-refl, le-trans, lt-of-lt-of-le}
 use native.Mathlib.Omega.{arith}
 use lib.Dec.{leb}
 use borrow.Author.Tests.{le-leb, lt-leb, leb-true, leb-false}
-use Rattle.rules.specs.Limits as Limits
-use Rattle.rules.specs.Lists.{all?}
-use Rattle.rules.specs.Table.{Graph, Table, lcm, lcmFrom, hyperperiod, load, loadable}
-use Rattle.rules.specs.WellFormed.{graphFormed, wellFormed}
-use Rattle.rules.specs.Reading.{admit}
-use Rattle.rules.proofs.Formed.{first-of, second-of, within-limits, graph-formed, table-formed}
-use Rattle.rules.proofs.Tests.{by-test}
+use Rattle.schedule.specs.Limits as Limits
+use Rattle.schedule.specs.Lists.{all?}
+use Rattle.schedule.specs.Table.{Graph, Table, lcm, lcmFrom, hyperperiod, load, loadable}
+use Rattle.schedule.specs.WellFormed.{graphFormed, wellFormed}
+use Rattle.rules.specs.Admission.{admit}
+use Rattle.theorems.proofs.Formed.{first-of, second-of, within-limits, graph-formed, table-formed}
+use Rattle.schedule.proofs.Tests.{by-test}
 use Rattle.numbers.specs.Multiples.{multipleWithin}
 use Rattle.numbers.proofs.Euclid.{lcm-grows}
 use Rattle.table.specs.declared.Table.{Table as Memory}

@@ -7,15 +7,15 @@ use native.Mathlib.Omega.{arith}
 use lib.Dec.{eqb}
 use lib.ListN.{length, drop}
 use borrow.Author.Tests.{le-leb, lt-leb}
-use Rattle.rules.specs.declared.Refusal.{Refusal}
-use Rattle.rules.specs.declared.Refusal.the-variants.{Misspelled, OutsideLimits, AgainstPredecessorRules}
-use Rattle.rules.specs.Limits as Limits
-use Rattle.rules.specs.Keys as Keys
-use Rattle.rules.specs.Table.{Node, Graph}
-use Rattle.rules.specs.WellFormed.{within, allFollowed, nodesFormed}
-use Rattle.rules.specs.Reading.{Place, Outcome, refused, done, _and-then_, numberLine, nodesFrom, graphNodes, graph, graphsFrom, ended, table}
+use Rattle.format.specs.declared.Refusal.{Refusal}
+use Rattle.format.specs.declared.Refusal.the-variants.{Misspelled, OutsideLimits, AgainstPredecessorRules}
+use Rattle.schedule.specs.Limits as Limits
+use Rattle.format.specs.Keys as Keys
+use Rattle.schedule.specs.Table.{Node, Graph}
+use Rattle.schedule.specs.WellFormed.{within, allFollowed, nodesFormed}
+use Rattle.format.specs.Reading.{Place, Outcome, refused, done, _and-then_, numberLine, nodesFrom, graphNodes, graph, graphsFrom, ended, table}
 use Rattle.rules.proofs.Outcomes.{Holds, number-line-holds}
-use Rattle.rules.proofs.Tests.{by-test}
+use Rattle.schedule.proofs.Tests.{by-test}
 use Rattle.numbers.specs.Masks.{unsetBelow}
 use Rattle.table.specs.declared.Table.{Table as Memory}
 use Rattle.table.specs.Fresh.{emptyTable}

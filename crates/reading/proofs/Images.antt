@@ -3,9 +3,9 @@ use mathlib.Core.Path.{_≡_}
 use mathlib.Core.List.{List}
 use Prim.Native.Nat.{ℕ}
 use native.Mathlib.Omega.{arith}
-use Rattle.rules.specs.declared.Refusal.{Refusal}
-use Rattle.rules.specs.Spelling.{Scan, read, wrong}
-use Rattle.rules.specs.Reading.{Place, Outcome, refused, done}
+use Rattle.format.specs.declared.Refusal.{Refusal}
+use Rattle.format.specs.Spelling.{Scan, read, wrong}
+use Rattle.format.specs.Reading.{Place, Outcome, refused, done}
 use Rattle.reading.specs.Positions.{mapScan}
 use Rattle.reading.specs.Outcomes.{mapOutcome}
 

@@ -7,9 +7,9 @@ use lib.Dec.{leb, ltb}
 use lib.ListN.{length, getD, take, replicate}
 use lib.Seq.{take-take, take-append-seam}
 use borrow.Author.Tests.{leb-true, ltb-true}
-use Rattle.rules.specs.Keys.{Key, keys, noKey, keyAt}
-use Rattle.rules.specs.Lists.{all?}
-use Rattle.rules.proofs.Formed.{first-of, second-of}
+use Rattle.format.specs.Keys.{Key, keys, noKey, keyAt}
+use Rattle.schedule.specs.Lists.{all?}
+use Rattle.theorems.proofs.Formed.{first-of, second-of}
 use Rattle.table.specs.Keys.{nameLength, codedKey}
 use Rattle.reading.specs.Positions.{far}
 

@@ -6,14 +6,14 @@ use Prim.Native.Nat.{ℕ, _<_, _≤_}
 use native.Mathlib.Omega.{arith}
 use lib.Dec.{leb, eqb}
 use borrow.Author.Tests.{leb-true, leb-false, lt-leb}
-use Rattle.rules.specs.Bytes.{lineFeed}
-use Rattle.rules.specs.Keys as Keys
-use Rattle.rules.specs.Keys.{keyAt}
-use Rattle.rules.specs.Limits.{Range}
-use Rattle.rules.specs.Spelling.{Scan, read, wrong, _⟫_, text, heading}
-use Rattle.rules.specs.WellFormed.{within, orderly}
-use Rattle.rules.proofs.Formed.{within-limits}
-use Rattle.rules.proofs.Tests.{by-test}
+use Rattle.format.specs.Bytes.{lineFeed}
+use Rattle.format.specs.Keys as Keys
+use Rattle.format.specs.Keys.{keyAt}
+use Rattle.schedule.specs.Limits.{Range}
+use Rattle.format.specs.Spelling.{Scan, read, wrong, _⟫_, text, heading}
+use Rattle.schedule.specs.WellFormed.{within, orderly}
+use Rattle.theorems.proofs.Formed.{within-limits}
+use Rattle.schedule.proofs.Tests.{by-test}
 use Rattle.reading.specs.Positions.{far, kept}
 use Rattle.reading.specs.Masks.{maskOf, listing}
 use Rattle.reading.specs.Lines.{misspelled, judgeBy, closed, same, always, lineJudged}

@@ -7,9 +7,9 @@ use native.Mathlib.Numerals.{add-one}
 use native.Mathlib.Omega.{arith}
 use lib.Dec.{leb}
 use borrow.Author.Tests.{le-leb, lt-leb, leb-true, leb-false}
-use Rattle.rules.specs.Lists.{tab}
-use Rattle.rules.specs.Table.{Graph, lcm}
-use Rattle.rules.proofs.Tests.{by-test}
+use Rattle.schedule.specs.Lists.{tab}
+use Rattle.schedule.specs.Table.{Graph, lcm}
+use Rattle.schedule.proofs.Tests.{by-test}
 use Rattle.numbers.specs.declared.multiples.Multiple.the-variants.{Within, Past}
 use Rattle.numbers.specs.Multiples.{multipleWithin}
 use Rattle.reading.specs.declared.admission.Room.the-variants.{Left, Over}

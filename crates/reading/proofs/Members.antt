@@ -7,11 +7,11 @@ use native.Mathlib.Omega.{arith}
 use lib.Arith.{lt-of-le-ne}
 use lib.Dec.{ltb, eqb}
 use borrow.Author.Tests.{eq-eqb, ne-eqb, ltb-true, eqb-true, eqb-false, lt-ltb}
-use Rattle.rules.specs.Limits as Limits
-use Rattle.rules.specs.Lists.{any?, keep, numbers}
-use Rattle.rules.specs.WellFormed.{rising, orderly}
-use Rattle.rules.proofs.Formed.{first-of, second-of}
-use Rattle.rules.proofs.Tests.{by-test}
+use Rattle.schedule.specs.Limits as Limits
+use Rattle.schedule.specs.Lists.{any?, keep, numbers}
+use Rattle.schedule.specs.WellFormed.{rising, orderly}
+use Rattle.theorems.proofs.Formed.{first-of, second-of}
+use Rattle.schedule.proofs.Tests.{by-test}
 use Rattle.numbers.specs.Masks.{bit}
 use Rattle.reading.specs.Masks.{maskOf, listOf}
 use Rattle.reading.proofs.Successors.{orderly-fits, mask-bit}

@@ -7,12 +7,12 @@ use native.Mathlib.Numerals.{add-one}
 use native.Mathlib.Omega.{arith}
 use lib.ListN.{length, getD, set, length-set}
 use lib.Seq.{sets, length-sets, getD-set-same, getD-set-other}
-use Rattle.rules.specs.Limits as Limits
-use Rattle.rules.specs.Lists.{all?, tab}
-use Rattle.rules.specs.Table as Rules
-use Rattle.rules.specs.WellFormed.{nodesFormed, graphFormed, wellFormed}
+use Rattle.schedule.specs.Limits as Limits
+use Rattle.schedule.specs.Lists.{all?, tab}
+use Rattle.schedule.specs.Table as Rules
+use Rattle.schedule.specs.WellFormed.{nodesFormed, graphFormed, wellFormed}
 use Rattle.rules.proofs.ReadWellFormed.{nodesIn}
-use Rattle.rules.proofs.Formed.{first-of, second-of, within-limits, node-formed, graph-formed, table-formed}
+use Rattle.theorems.proofs.Formed.{first-of, second-of, within-limits, node-formed, graph-formed, table-formed}
 use Rattle.table.specs.declared.Table.{Table}
 use Rattle.table.specs.declared.Graph.{Graph}
 use Rattle.table.specs.declared.Node.{Node}

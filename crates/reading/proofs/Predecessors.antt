@@ -8,10 +8,10 @@ use native.Mathlib.Omega.{arith}
 use lib.Dec.{leb, ltb, eqb}
 use lib.ListN.{length}
 use borrow.Author.Tests.{le-ltb, leb-true, leb-false}
-use Rattle.rules.specs.Bytes.{bytes, comma, digitZero, isDigit, valueOf}
-use Rattle.rules.specs.Spelling.{Scan, read, wrong, _⟫_, text, digits, number, numbersBy, numbers, next?, letterN, list}
-use Rattle.rules.specs.WellFormed.{rising, orderly}
-use Rattle.rules.proofs.Tests.{by-test}
+use Rattle.format.specs.Bytes.{bytes, comma, digitZero, isDigit, valueOf}
+use Rattle.format.specs.Spelling.{Scan, read, wrong, _⟫_, text, digits, number, numbersBy, numbers, next?, letterN, list}
+use Rattle.schedule.specs.WellFormed.{rising, orderly}
+use Rattle.schedule.proofs.Tests.{by-test}
 use Rattle.numbers.specs.Masks.{with}
 use Rattle.reading.specs.declared.lists.Listing.{Listing}
 use Rattle.reading.specs.Positions.{mapScan, far, kept, capped}

@@ -9,16 +9,16 @@ use lib.Bits.{bitOr}
 use lib.Dec.{eqb}
 use lib.ListN.{set}
 use borrow.Author.Tests.{eq-eqb, ne-eqb, eqb-true}
-use Rattle.rules.specs.declared.Refusal.{Refusal}
-use Rattle.rules.specs.declared.Refusal.the-variants.{Misspelled, OutsideLimits, AgainstPredecessorRules}
-use Rattle.rules.specs.Keys as Keys
-use Rattle.rules.specs.Keys.{keyAt}
-use Rattle.rules.specs.Spelling.{Scan, read, wrong, number, list, line}
-use Rattle.rules.specs.Table.{Node}
-use Rattle.rules.specs.WellFormed.{within, orderly}
-use Rattle.rules.specs.Reading.{Place, Outcome, refused, done, _and-then_, judged, numberLine, afterLine, node, nodesFrom}
+use Rattle.format.specs.declared.Refusal.{Refusal}
+use Rattle.format.specs.declared.Refusal.the-variants.{Misspelled, OutsideLimits, AgainstPredecessorRules}
+use Rattle.format.specs.Keys as Keys
+use Rattle.format.specs.Keys.{keyAt}
+use Rattle.format.specs.Spelling.{Scan, read, wrong, number, list, line}
+use Rattle.schedule.specs.Table.{Node}
+use Rattle.schedule.specs.WellFormed.{within, orderly}
+use Rattle.format.specs.Reading.{Place, Outcome, refused, done, _and-then_, judged, numberLine, afterLine, node, nodesFrom}
 use Rattle.rules.proofs.Outcomes.{Holds, then-holds, number-line-holds, after-line-holds}
-use Rattle.rules.proofs.Tests.{by-test}
+use Rattle.schedule.proofs.Tests.{by-test}
 use Rattle.table.specs.declared.Node.{Node as Row}
 use Rattle.reading.specs.declared.tables.Three.{Three}
 use Rattle.reading.specs.Masks.{maskOf}

@@ -9,10 +9,10 @@ use lib.Dec.{leb}
 use lib.ListN.{length, getD, take, drop, drop-of-length-le, length-take}
 use lib.Seq.{drop-cons, length-take-le, getD-take}
 use borrow.Author.Tests.{eq-eqb, ne-eqb, leb-true, leb-false}
-use Rattle.rules.specs.Bytes.{digitZero, isDigit, valueOf}
-use Rattle.rules.specs.Spelling.{read, wrong, text, digits, number, next?}
-use Rattle.rules.proofs.Formed.{first-of, second-of}
-use Rattle.rules.proofs.Tests.{by-test}
+use Rattle.format.specs.Bytes.{digitZero, isDigit, valueOf}
+use Rattle.format.specs.Spelling.{read, wrong, text, digits, number, next?}
+use Rattle.theorems.proofs.Formed.{first-of, second-of}
+use Rattle.schedule.proofs.Tests.{by-test}
 use Rattle.reading.specs.Positions.{far, kept, capped}
 
 -- one more byte: the code's p + 1

@@ -3,7 +3,7 @@ use mathlib.Core.Path.{_≡_, sym, ap, _∙_}
 use mathlib.Core.List.{List}
 use Prim.Native.Nat.{ℕ, _<_, _≤_}
 use lib.ListN.{length}
-use Rattle.rules.specs.Spelling.{number}
+use Rattle.format.specs.Spelling.{number}
 use Rattle.reading.specs.Positions.{scannedOf, capped}
 use Rattle.reading.specs.Instants.{instantIn, instantOf}
 use Rattle.reading.specs.declared.scanning.Scanned.{Scanned}

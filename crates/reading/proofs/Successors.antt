@@ -8,11 +8,11 @@ use lib.Bits.{bitOr}
 use lib.Dec.{ltb, eqb, eqb·suc-suc}
 use lib.ListN.{length}
 use borrow.Author.Tests.{ltb-true}
-use Rattle.rules.specs.Limits as Limits
-use Rattle.rules.specs.Lists.{any?, all?, numbers, upTo}
-use Rattle.rules.specs.Table.{Node}
-use Rattle.rules.specs.WellFormed.{rising, orderly, followed, allFollowed, nodesFormed}
-use Rattle.rules.proofs.Formed.{first-of, second-of, node-formed}
+use Rattle.schedule.specs.Limits as Limits
+use Rattle.schedule.specs.Lists.{any?, all?, numbers, upTo}
+use Rattle.schedule.specs.Table.{Node}
+use Rattle.schedule.specs.WellFormed.{rising, orderly, followed, allFollowed, nodesFormed}
+use Rattle.theorems.proofs.Formed.{first-of, second-of, node-formed}
 use Rattle.numbers.specs.Masks.{width, bit, with, unsetBelow}
 use Rattle.numbers.proofs.MaskLaws.{no-bit, bit-or, bit-with, unset-none, unset-more}
 use Rattle.reading.specs.Masks.{maskFrom, maskOf}

@@ -3,12 +3,12 @@ use mathlib.Core.Bool.{cond}
 use mathlib.Core.List.{List, [], _∷_}
 use Prim.Native.Nat.{ℕ, _-_, _*_, _/_}
 use lib.Dec.{leb}
-use Rattle.rules.specs.declared.Refusal.{Refusal}
-use Rattle.rules.specs.declared.Refusal.the-variants.{LongHyperperiod, NotLoadable}
-use Rattle.rules.specs.Limits as Limits
-use Rattle.rules.specs.Lists.{sum}
-use Rattle.rules.specs.Table.{Node, Graph, lcm, hyperperiod}
-use Rattle.rules.specs.Reading.{Admission, admitted, refused}
+use Rattle.format.specs.declared.Refusal.{Refusal}
+use Rattle.format.specs.declared.Refusal.the-variants.{LongHyperperiod, NotLoadable}
+use Rattle.schedule.specs.Limits as Limits
+use Rattle.schedule.specs.Lists.{sum}
+use Rattle.schedule.specs.Table.{Node, Graph, lcm, hyperperiod}
+use Rattle.rules.specs.Admission.{Admission, admitted, refused}
 use Rattle.numbers.specs.declared.multiples.Multiple.{Multiple}
 use Rattle.numbers.specs.declared.multiples.Multiple.the-variants.{Within, Past}
 use Rattle.table.specs.declared.Table.{Table}

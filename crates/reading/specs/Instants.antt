@@ -2,7 +2,7 @@
 use mathlib.Core.Bool.{Bool, true, false, cond}
 use mathlib.Core.List.{List, [], _∷_}
 use Prim.Native.Nat.{ℕ}
-use Rattle.rules.specs.Spelling.{Scan, read, wrong, number}
+use Rattle.format.specs.Spelling.{Scan, read, wrong, number}
 use Rattle.reading.specs.Positions.{capped}
 use Rattle.reading.specs.declared.instants.Instant.{Instant}
 use Rattle.reading.specs.declared.instants.Instant.the-variants.{At, Misspelled}

@@ -4,11 +4,11 @@ use mathlib.Core.List.{List, [], _∷_}
 use Prim.Native.Nat.{ℕ}
 use lib.Dec.{eqb}
 use lib.ListN.{drop}
-use Rattle.rules.specs.Bytes.{lineFeed}
-use Rattle.rules.specs.Keys as Keys
-use Rattle.rules.specs.Keys.{keyAt}
-use Rattle.rules.specs.Spelling.{Scan, read, wrong, _⟫_, text, number, list, line}
-use Rattle.rules.specs.WellFormed.{within, orderly}
+use Rattle.format.specs.Bytes.{lineFeed}
+use Rattle.format.specs.Keys as Keys
+use Rattle.format.specs.Keys.{keyAt}
+use Rattle.format.specs.Spelling.{Scan, read, wrong, _⟫_, text, number, list, line}
+use Rattle.schedule.specs.WellFormed.{within, orderly}
 use Rattle.reading.specs.declared.lines.Line.{Line}
 use Rattle.reading.specs.declared.lines.Line.the-variants as Line
 use Rattle.reading.specs.Masks.{maskOf}

@@ -4,9 +4,9 @@ use mathlib.Core.List.{List, [], _∷_}
 use Prim.Native.Nat.{ℕ, _-_}
 use lib.Dec.{ltb, eqb}
 use lib.ListN.{drop}
-use Rattle.rules.specs.Limits as Limits
-use Rattle.rules.specs.Lists.{keep, upTo}
-use Rattle.rules.specs.Spelling.{Scan, read, wrong}
+use Rattle.schedule.specs.Limits as Limits
+use Rattle.schedule.specs.Lists.{keep, upTo}
+use Rattle.format.specs.Spelling.{Scan, read, wrong}
 use Rattle.numbers.specs.Masks.{bit, with}
 use Rattle.reading.specs.declared.lists.Listing.{Listing}
 use Rattle.reading.specs.declared.lists.Listed.{Listed}

@@ -3,8 +3,8 @@ use mathlib.Core.List.{List, [], _∷_, map}
 use Prim.Native.Nat.{ℕ, _+_}
 use lib.ListN.{length, getD, set}
 use lib.Seq.{sets}
-use Rattle.rules.specs.Lists.{tab}
-use Rattle.rules.specs.Table as Rules
+use Rattle.schedule.specs.Lists.{tab}
+use Rattle.schedule.specs.Table as Rules
 use Rattle.table.specs.declared.Table.{Table}
 use Rattle.table.specs.declared.Graph.{Graph}
 use Rattle.table.specs.declared.Node.{Node}

@@ -5,10 +5,10 @@ use Prim.Native.Nat.{ℕ, _+_, _-_}
 use lib.Bits.{bitOr}
 use lib.Dec.{eqb}
 use lib.ListN.{drop, set}
-use Rattle.rules.specs.declared.Refusal.the-variants.{AgainstPredecessorRules}
-use Rattle.rules.specs.Keys as Keys
-use Rattle.rules.specs.Table as Rules
-use Rattle.rules.specs.Reading.{Place, Outcome, refused, done, _and-then_, numberLine, afterLine}
+use Rattle.format.specs.declared.Refusal.the-variants.{AgainstPredecessorRules}
+use Rattle.format.specs.Keys as Keys
+use Rattle.schedule.specs.Table as Rules
+use Rattle.format.specs.Reading.{Place, Outcome, refused, done, _and-then_, numberLine, afterLine}
 use Rattle.numbers.specs.Masks.{unsetBelow}
 use Rattle.table.specs.declared.Table.{Table}
 use Rattle.table.specs.declared.Node.{Node}

@@ -1,16 +1,16 @@
 // Admission: the hyperperiod within its limit, and the load.
 use crate::tables::End;
 use crate::tables::table_read;
+use format::Refusal;
 use numbers::Multiple;
-use rules::Refusal;
 use table::Graph;
 use table::Node;
 use table::Table;
 ghost use mathlib.Core.Path.{_≡_};
 ghost use Prim.Native.Nat.{_+_, _*_, _/_};
 ghost use lib.ListN.{getD};
-ghost use Rattle.rules.specs.Limits as Limits;
-ghost use Rattle.rules.specs.Reading.{admissionOf};
+ghost use Rattle.schedule.specs.Limits as Limits;
+ghost use Rattle.rules.specs.Admission.{admissionOf};
 ghost use Rattle.table.specs.Fresh.{noGraph, noNode};
 ghost use Rattle.reading.specs.Memory.{graphOf, tableOf};
 ghost use Rattle.reading.specs.Admission.{hyperperiodWithin, roomAfter, graphLoad, graphsLoad, codedRefusal, admittedMemory, codedAdmission};

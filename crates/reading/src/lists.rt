@@ -7,7 +7,7 @@ use crate::scanning::text_at;
 ghost use mathlib.Core.Path.{_≡_};
 ghost use mathlib.Core.Bool.{true};
 ghost use lib.ListN.{drop};
-ghost use Rattle.rules.specs.Spelling.{numbers, list};
+ghost use Rattle.format.specs.Spelling.{numbers, list};
 ghost use Rattle.reading.specs.Positions.{mapScan};
 ghost use Rattle.reading.specs.Masks.{entered, entries, noEntries, listing, listedOf};
 

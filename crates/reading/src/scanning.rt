@@ -6,8 +6,8 @@ ghost use mathlib.Core.List.{[], _∷_};
 ghost use Prim.Native.Nat.{_+_, _*_, _≤_, min};
 ghost use lib.ListN.{take, drop};
 ghost use Rattle.table.specs.Keys.{nameLength};
-ghost use Rattle.rules.specs.Bytes.{isDigit};
-ghost use Rattle.rules.specs.Spelling.{text, digits, number, next?};
+ghost use Rattle.format.specs.Bytes.{isDigit};
+ghost use Rattle.format.specs.Spelling.{text, digits, number, next?};
 ghost use Rattle.reading.specs.Positions.{foundOf, scannedOf, far, capped};
 
 // A fixed text: the position after it, or where it goes wrong.

@@ -5,14 +5,14 @@ use crate::lines::Line;
 use crate::lines::PERIOD;
 use crate::lines::PROCESSORS;
 use crate::reader::line_at;
-use rules::Refusal;
+use format::Refusal;
 use table::Graph;
 use table::Node;
 use table::Table;
 ghost use mathlib.Core.Path.{_≡_};
 ghost use Prim.Native.Nat.{_+_, _-_, _*_, _^_, _<_, _≤_};
-ghost use Rattle.rules.specs.Limits as Limits;
-ghost use Rattle.rules.specs.Reading.{_and-then_, node, nodesFrom, graphNodes, graph, graphsFrom, ended, readOf};
+ghost use Rattle.schedule.specs.Limits as Limits;
+ghost use Rattle.format.specs.Reading.{_and-then_, node, nodesFrom, graphNodes, graph, graphsFrom, ended, readOf};
 ghost use Rattle.reading.specs.Memory.{codedNode, withGraph, withGraphs, memoryOf};
 ghost use Rattle.reading.specs.Outcomes.{mapOutcome, placeOf, codedLine, lineReadOf, threeLines, threeReadOf, nodeReadOf, taken, nodesReadOf, addedGraph, endedGraph, tableReadOf};
 

@@ -12,7 +12,7 @@ use borrow.Author.Tests.{lt-ltb, le-ltb, le-leb, lt-leb, eq-eqb, ne-eqb, eqb-tru
 use Rattle.numbers.specs.Masks.{width, bit, without, lowest}
 use Rattle.numbers.proofs.Cases.{by-test}
 use Rattle.numbers.proofs.MaskLaws.{no-bit, bit-without, lowest-set, lowest-below}
-use Rattle.rules.proofs.Tests.{either-way}
+use Rattle.schedule.proofs.Tests.{either-way}
 use Rattle.window.specs.Entries.{places, window}
 use Rattle.window.specs.Releasing.{earliest, fullAt, oneMore, enteredFirst, countedUnlinked, allFewer}
 use Rattle.window.proofs.LoopLaws.{all-missed, all-true, all-same}

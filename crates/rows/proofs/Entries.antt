@@ -7,8 +7,8 @@ use native.Mathlib.Numerals.{add-one}
 use native.Mathlib.Omega.{arith}
 use lib.ListN.{length, getD, set, take}
 use lib.Seq.{take-suc-set}
-use Rattle.rules.specs.Limits as Limits
-use Rattle.rules.specs.Lists.{joined}
+use Rattle.schedule.specs.Limits as Limits
+use Rattle.schedule.specs.Lists.{joined}
 use Rattle.table.specs.declared.Seen.{Seen}
 use Rattle.window.specs.declared.Plan.{Plan}
 use Rattle.window.specs.Entries.{places}

@@ -6,10 +6,10 @@ use Prim.Native.Nat.{ℕ, zero, suc, _+_, _≤_, _<_}
 use native.Mathlib.Nat.{le-refl, zero-add}
 use native.Mathlib.Omega.{arith}
 use lib.Dec.{T}
-use Rattle.rules.specs.Lists.{keep, joined}
-use Rattle.rules.specs.ServerJobs.{ServerJob, jobsFrom}
-use Rattle.rules.proofs.Tests.{by-lt, either-way, dec, true-T, T-true}
-use Rattle.rules.proofs.Counts.{serverJob}
+use Rattle.schedule.specs.Lists.{keep, joined}
+use Rattle.schedule.specs.ServerJobs.{ServerJob, jobsFrom}
+use Rattle.schedule.proofs.Tests.{by-lt, either-way, dec, true-T, T-true}
+use Rattle.theorems.proofs.Counts.{serverJob}
 
 module _ {A : Type 0} where
   pub joined-last : (f : ℕ → List A) (a n : ℕ) → joined f a (suc n) ≡ joined f a n ++ f (a + n)

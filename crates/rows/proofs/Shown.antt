@@ -8,17 +8,17 @@ use native.Mathlib.Omega.{arith}
 use lib.Dec.{T, eqb, eqb→eq}
 use lib.ListN.{length, getD}
 use borrow.Author.Tests.{lt-ltb, le-ltb}
-use Rattle.rules.specs.Lists.{keep, joined}
-use Rattle.rules.specs.Servers.{Server, srv, Box, whole}
-use Rattle.rules.specs.ServerJobs.{ServerJob, jobsFrom, releaseOf, released, releasedBefore, priorityOf, readyJobs, used}
-use Rattle.rules.specs.Walk.{runningAt, rowAt}
-use Rattle.rules.proofs.Tests.{by-lt, and-l, and-r, and-i, eq→eqb}
-use Rattle.rules.proofs.Counts.{serverJob}
-use Rattle.rules.proofs.Ready as Ready
-use Rattle.rules.proofs.Ready.{ready-is}
-use Rattle.rules.proofs.InTurn.{completed}
-use Rattle.rules.proofs.Linking.{linkOf}
-use Rattle.rules.proofs.Finishing.{link-le}
+use Rattle.schedule.specs.Lists.{keep, joined}
+use Rattle.schedule.specs.Servers.{Server, srv, Box, whole}
+use Rattle.schedule.specs.ServerJobs.{ServerJob, jobsFrom, releaseOf, released, releasedBefore, priorityOf, readyJobs, used}
+use Rattle.schedule.specs.Walk.{runningAt, rowAt}
+use Rattle.schedule.proofs.Tests.{by-lt, and-l, and-r, and-i, eq→eqb}
+use Rattle.theorems.proofs.Counts.{serverJob}
+use Rattle.theorems.proofs.Ready as Ready
+use Rattle.theorems.proofs.Ready.{ready-is}
+use Rattle.theorems.proofs.InTurn.{completed}
+use Rattle.theorems.proofs.Linking.{linkOf}
+use Rattle.theorems.proofs.Finishing.{link-le}
 use Rattle.table.specs.declared.Pending.{Pending}
 use Rattle.table.specs.declared.Seen.{Seen}
 use Rattle.table.specs.declared.State.{State}

@@ -4,7 +4,7 @@ use mathlib.Core.Bool.{cond}
 use mathlib.Core.List.{List}
 use Prim.Native.Nat.{ℕ, _+_, _-_, _/_, _%_}
 use lib.ListN.{getD, replicate}
-use Rattle.rules.specs.Limits as Limits
+use Rattle.schedule.specs.Limits as Limits
 use Rattle.table.specs.declared.Pending.{Pending}
 use Rattle.table.specs.declared.Seen.{Seen}
 use Rattle.window.specs.declared.Plan.{Plan}

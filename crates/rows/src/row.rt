@@ -7,7 +7,7 @@ use writing::Row;
 use writing::Run;
 ghost use mathlib.Core.Path.{_≡_};
 ghost use Prim.Native.Nat.{_≤_};
-ghost use Rattle.rules.specs.Limits as Limits;
+ghost use Rattle.schedule.specs.Limits as Limits;
 ghost use Rattle.rows.specs.Showing as Mirror;
 
 // A row with room for `count` entries, none of them filled in yet.

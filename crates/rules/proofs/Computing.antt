@@ -1,18 +1,19 @@
 -- What antt needs opened to compute an answer: every definition between the bytes and the text, with the walk in one pass.
 use mathlib.Core.Path.{_≡_, fun-ext}
-use Rattle.rules.specs.Table as Table
-use Rattle.rules.specs.Servers.{Box, whole, ofNodes, ofGraphs, sinksOf}
-use Rattle.rules.specs.ServerJobs.{releaseOf, released, releasedBefore, priorityOf, before, complete, pending, ready, readyJobs, rank, runs, tick, used}
-use Rattle.rules.specs.Links.{finished, dueAfter, due, linked, linkNow, link, links, dueBy, finishedBy}
-use Rattle.rules.specs.State.{finishedCount, behindOf, pendingJob, pendingJobs, nodeState, phase, state}
-use Rattle.rules.specs.Walk.{Walked, crowded, overdue, backlogged, boundary, atBoundary, roundAt, stopWith, responseAt, finishing, runningAt, rowAt}
-use Rattle.rules.specs.WellFormed.{rising, orderly, followed, allFollowed}
-use Rattle.rules.specs.Bytes.{decimalBy, decimal}
-use Rattle.rules.specs.Keys.{keys}
-use Rattle.rules.specs.Spelling.{text, digits, number, numbersBy, numbers, list}
-use Rattle.rules.specs.Reading.{numberLine, afterLine, node, nodesFrom, graphNodes, graph, graphsFrom, table, readOf, admit, admissionOf}
+use Rattle.schedule.specs.Table as Table
+use Rattle.schedule.specs.Servers.{Box, whole, ofNodes, ofGraphs, sinksOf}
+use Rattle.schedule.specs.ServerJobs.{releaseOf, released, releasedBefore, priorityOf, before, complete, pending, ready, readyJobs, rank, runs, tick, used}
+use Rattle.schedule.specs.Links.{finished, dueAfter, due, linked, linkNow, link, links, dueBy, finishedBy}
+use Rattle.schedule.specs.State.{finishedCount, behindOf, pendingJob, pendingJobs, nodeState, phase, state}
+use Rattle.schedule.specs.Walk.{Walked, crowded, overdue, backlogged, boundary, atBoundary, roundAt, stopWith, responseAt, finishing, runningAt, rowAt}
+use Rattle.schedule.specs.WellFormed.{rising, orderly, followed, allFollowed}
+use Rattle.format.specs.Bytes.{decimalBy, decimal}
+use Rattle.format.specs.Keys.{keys}
+use Rattle.format.specs.Spelling.{text, digits, number, numbersBy, numbers, list}
+use Rattle.format.specs.Reading.{numberLine, afterLine, node, nodesFrom, graphNodes, graph, graphsFrom, table, readOf}
+use Rattle.rules.specs.Admission.{admit, admissionOf}
 use Rattle.rules.specs.Answers.{answerLine, responseLines, reportText, rowText, printed, rowOn, fitted, left, callOf, wholeWalk}
-use Rattle.rules.proofs.OnePass.{nextFigures, nextLast, passFrom, walkedInOnePass, one-pass}
+use Rattle.schedule.proofs.OnePass.{nextFigures, nextLast, passFrom, walkedInOnePass, one-pass}
 
 -- opened by name where a test is computed
 unfoldable pub answering : Unit {0}

@@ -2,14 +2,14 @@
 use mathlib.Core.Path.{_≡_, refl, subst}
 use mathlib.Core.Bool.{Bool, true}
 use Prim.Native.Nat.{ℕ, suc}
-use Rattle.rules.specs.declared.Refusal.{Refusal}
-use Rattle.rules.specs.declared.Refusal.the-variants.{OutsideLimits, AgainstPredecessorRules}
-use Rattle.rules.specs.Keys.{keyAt}
-use Rattle.rules.specs.Keys as Keys
-use Rattle.rules.specs.Spelling.{Scan, read, wrong, number, list, line}
-use Rattle.rules.specs.WellFormed.{within, orderly}
-use Rattle.rules.specs.Reading.{Place, Outcome, refused, done, _and-then_, judged, numberLine, afterLine}
-use Rattle.rules.proofs.Tests.{by-test}
+use Rattle.format.specs.declared.Refusal.{Refusal}
+use Rattle.format.specs.declared.Refusal.the-variants.{OutsideLimits, AgainstPredecessorRules}
+use Rattle.format.specs.Keys.{keyAt}
+use Rattle.format.specs.Keys as Keys
+use Rattle.format.specs.Spelling.{Scan, read, wrong, number, list, line}
+use Rattle.schedule.specs.WellFormed.{within, orderly}
+use Rattle.format.specs.Reading.{Place, Outcome, refused, done, _and-then_, judged, numberLine, afterLine}
+use Rattle.schedule.proofs.Tests.{by-test}
 
 module _ {A : Type 0} where
   -- P holds of the value and the place, where there are any

@@ -5,13 +5,13 @@ use mathlib.Core.List.{List, [], _∷_, map}
 use Prim.Native.Nat.{ℕ, suc}
 use lib.Dec.{T, eqb}
 use lib.ListN.{replicate}
-use Rattle.rules.specs.Limits as Limits
-use Rattle.rules.specs.Lists.{alike, upTo}
-use Rattle.rules.specs.Bytes.{bytes}
-use Rattle.rules.specs.Servers.{Box}
-use Rattle.rules.specs.Walk.{Walked}
-use Rattle.rules.specs.Refusals.{answerNumber}
-use Rattle.rules.specs.Reading.{admissionOf}
+use Rattle.schedule.specs.Limits as Limits
+use Rattle.schedule.specs.Lists.{alike, upTo}
+use Rattle.format.specs.Bytes.{bytes}
+use Rattle.schedule.specs.Servers.{Box}
+use Rattle.schedule.specs.Walk.{Walked}
+use Rattle.rules.specs.AnswerNumbers.{answerNumber}
+use Rattle.rules.specs.Admission.{admissionOf}
 use Rattle.rules.specs.Answers.{callOf, reportAdmitted, rowAdmitted, wholeWalk}
 use Rattle.rules.specs.Worked.{node-1-every-4, chain-1-1, chain-1-1-in-1-round, chain-3-2, level-1-in-47-rounds, period-2¹⁶+4}
 use Rattle.rules.proofs.Computing.{answering, onePassWalk, same-walk}

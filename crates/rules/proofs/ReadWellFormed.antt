@@ -8,16 +8,16 @@ use native.Mathlib.Omega.{arith}
 use lib.Dec.{T, leb}
 use lib.ListN.{length}
 use borrow.Author.Tests.{leb-true}
-use Rattle.rules.specs.Limits as Limits
-use Rattle.rules.specs.Lists.{all?, sum}
-use Rattle.rules.specs.Keys as Keys
-use Rattle.rules.specs.Keys.{keys}
-use Rattle.rules.specs.Table.{Graph, Table, hyperperiod, loadable}
-use Rattle.rules.specs.WellFormed.{within, orderly, allFollowed, nodesFormed, graphFormed, wellFormed}
-use Rattle.rules.specs.Reading.{Place, Outcome, refused, done, numberLine, afterLine, node, nodesFrom, graphNodes, graph, graphsFrom, ended, table, readOf, Admission, admitted, admit, admitRead, admissionOf}
-use Rattle.rules.specs.Reading as Reading
-use Rattle.rules.proofs.Formed.{both, within-limits, limits-within, graph-formed}
-use Rattle.rules.proofs.Tests.{by-test}
+use Rattle.schedule.specs.Limits as Limits
+use Rattle.schedule.specs.Lists.{all?, sum}
+use Rattle.format.specs.Keys as Keys
+use Rattle.format.specs.Keys.{keys}
+use Rattle.schedule.specs.Table.{Graph, Table, hyperperiod, loadable}
+use Rattle.schedule.specs.WellFormed.{within, orderly, allFollowed, nodesFormed, graphFormed, wellFormed}
+use Rattle.format.specs.Reading.{Place, Outcome, done, numberLine, afterLine, node, nodesFrom, graphNodes, graph, graphsFrom, ended, table, readOf, refused}
+use Rattle.rules.specs.Admission.{Admission, admitted, admit, admitRead, admissionOf}
+use Rattle.theorems.proofs.Formed.{both, within-limits, limits-within, graph-formed}
+use Rattle.schedule.proofs.Tests.{by-test}
 use Rattle.rules.proofs.Outcomes.{Holds, told, then-holds, number-line-holds, after-line-holds}
 
 -- a node has three lines
@@ -131,7 +131,7 @@ admitted-holds P (done W q) U e h =
     inner : admitted W ≡ admitted U → W ≡ U
     inner g = cc
 
-    no-refusal : {r : _} → Reading.Admission.refused r ≡ admitted U → ⊥
+    no-refusal : {r : _} → Admission.refused r ≡ admitted U → ⊥
     no-refusal g = let z : _≡_ {A = ℕ} 0 1 = cc in omega arith
 
 pub admitted-well-formed : (s : List ℕ) (U : Table) → admissionOf s ≡ admitted U → T (wellFormed U) × (hyperperiod U ≤ Limits.hyperperiod .to)

@@ -4,19 +4,20 @@ use mathlib.Core.List.{List}
 use Prim.Native.Nat.{ℕ}
 use native.Mathlib.Omega.{arith}
 use lib.ListN.{length-map}
-use Rattle.rules.specs.declared.Refusal.{Refusal}
-use Rattle.rules.specs.declared.Refusal.the-variants.{TooLong, Misspelled, OutsideLimits, AgainstPredecessorRules, LongHyperperiod, NotLoadable}
-use Rattle.rules.specs.declared.Refusal.the-variants.{Backlog, Unsettled, PastTheStop, ShortBuffer}
-use Rattle.rules.specs.Refusals.{numberOf, answerNumber}
-use Rattle.rules.specs.Table.{Table}
-use Rattle.rules.specs.Servers.{boxOf}
-use Rattle.rules.specs.Walk.{Stop, settled, unsettled, backlog, figures, walked}
-use Rattle.rules.specs.Reading.{Admission, admitted, refused, admissionOf}
+use Rattle.format.specs.declared.Refusal.{Refusal}
+use Rattle.format.specs.declared.Refusal.the-variants.{TooLong, Misspelled, OutsideLimits, AgainstPredecessorRules, LongHyperperiod, NotLoadable}
+use Rattle.format.specs.declared.Refusal.the-variants.{Backlog, Unsettled, PastTheStop, ShortBuffer}
+use Rattle.format.specs.Refusals.{numberOf}
+use Rattle.rules.specs.AnswerNumbers.{answerNumber}
+use Rattle.schedule.specs.Table.{Table}
+use Rattle.schedule.specs.Servers.{boxOf}
+use Rattle.schedule.specs.Walk.{Stop, settled, unsettled, backlog, figures, walked}
+use Rattle.rules.specs.Admission.{Admission, admitted, refused, admissionOf}
 use Rattle.rules.specs.Answers.{Reply, says, refuses, reportOn, reportAdmitted, wholeWalk, reportOf, fitted, left, callOf}
 use Rattle.rules.specs.Demands.{TrueReport}
 use Rattle.rules.proofs.ReadWellFormed.{admitted-well-formed}
-use Rattle.rules.proofs.TableBox.{length-sinks}
-use Rattle.rules.proofs.LeastTrue.{figures-are-least-true}
+use Rattle.theorems.proofs.TableBox.{length-sinks}
+use Rattle.theorems.proofs.LeastTrue.{figures-are-least-true}
 
 -- no refusal has the number 0
 number-some : (r : Refusal) → numberOf r ≡ 0 → ⊥

@@ -1,9 +1,9 @@
 -- The worked tables hold, by one computed test over their list: for the walk in one pass, and so for that of the definitions.
 use mathlib.Core.Path.{subst}
 use lib.Dec.{T}
-use Rattle.rules.specs.Lists.{all?}
-use Rattle.rules.specs.Servers.{Box}
-use Rattle.rules.specs.Walk.{Walked}
+use Rattle.schedule.specs.Lists.{all?}
+use Rattle.schedule.specs.Servers.{Box}
+use Rattle.schedule.specs.Walk.{Walked}
 use Rattle.rules.specs.Answers.{wholeWalk}
 use Rattle.rules.specs.Worked.{linkedIn, holds, workedTables}
 use Rattle.rules.proofs.Computing.{answering, onePassWalk, same-walk}

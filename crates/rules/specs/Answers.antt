@@ -7,13 +7,13 @@ use lib.Dec.{leb, ltb}
 use lib.ListN.{length, drop}
 use Rattle.rules.specs.declared.Answer.{Answer}
 use Rattle.rules.specs.declared.Answer.the-variants.{Text, Refused}
-use Rattle.rules.specs.declared.Refusal.{Refusal}
-use Rattle.rules.specs.declared.Refusal.the-variants.{Backlog, Unsettled, PastTheStop, ShortBuffer}
-use Rattle.rules.specs.Bytes.{bytes, lineFeed, equals, comma, decimal}
-use Rattle.rules.specs.Refusals.{numberOf, lineOf}
-use Rattle.rules.specs.Servers.{Box, boxOf, whole}
-use Rattle.rules.specs.Walk.{Stop, settled, unsettled, backlog, Walked, Running, walked, rowAt}
-use Rattle.rules.specs.Reading.{Admission, admitted, refused, admissionOf}
+use Rattle.format.specs.declared.Refusal.{Refusal}
+use Rattle.format.specs.declared.Refusal.the-variants.{Backlog, Unsettled, PastTheStop, ShortBuffer}
+use Rattle.format.specs.Bytes.{bytes, lineFeed, equals, comma, decimal}
+use Rattle.format.specs.Refusals.{numberOf, lineOf}
+use Rattle.schedule.specs.Servers.{Box, boxOf, whole}
+use Rattle.schedule.specs.Walk.{Stop, settled, unsettled, backlog, Walked, Running, walked, rowAt}
+use Rattle.rules.specs.Admission.{Admission, admitted, refused, admissionOf}
 
 -- what is answered, before the buffer is looked at: a text, or a refusal
 pub data Reply : Type 0 where

@@ -5,13 +5,13 @@ use mathlib.Core.List.{List, [], _∷_}
 use Prim.Native.Nat.{ℕ, suc, _-_}
 use Prim.Native.String.{String}
 use lib.Dec.{eqb}
-use Rattle.rules.specs.Bytes.{bytes}
-use Rattle.rules.specs.Lists.{alike, cell}
-use Rattle.rules.specs.Servers.{Box, boxOf, srv, whole}
-use Rattle.rules.specs.ServerJobs.{releaseOf}
-use Rattle.rules.specs.Links.{links, dueBy}
-use Rattle.rules.specs.Walk.{Walked}
-use Rattle.rules.specs.Reading.{Admission, admitted, refused, admissionOf}
+use Rattle.format.specs.Bytes.{bytes}
+use Rattle.schedule.specs.Lists.{alike, cell}
+use Rattle.schedule.specs.Servers.{Box, boxOf, srv, whole}
+use Rattle.schedule.specs.ServerJobs.{releaseOf}
+use Rattle.schedule.specs.Links.{links, dueBy}
+use Rattle.schedule.specs.Walk.{Walked}
+use Rattle.rules.specs.Admission.{Admission, admitted, refused, admissionOf}
 use Rattle.rules.specs.Answers.{printed, reportAdmitted, rowAdmitted}
 
 -- what is said of a table

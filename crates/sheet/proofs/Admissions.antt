@@ -3,9 +3,9 @@ use mathlib.Core.Path.{_≡_, refl, ap, _∙_}
 use mathlib.Core.List.{List}
 use Prim.Native.Nat.{ℕ}
 use native.Mathlib.Omega.{arith}
-use Rattle.rules.specs.Table.{Table}
-use Rattle.rules.specs.Reading.{Admission, admitted, refused, admissionOf}
-use Rattle.rules.specs.declared.Refusal.{Refusal}
+use Rattle.schedule.specs.Table.{Table}
+use Rattle.rules.specs.Admission.{Admission, admitted, refused, admissionOf}
+use Rattle.format.specs.declared.Refusal.{Refusal}
 use Rattle.reading.specs.Admission.{codedAdmission}
 use Rattle.reading.specs.declared.admission.Admitted.{Admitted}
 use Rattle.reading.specs.declared.admission.Verdict.the-variants.{Passed, Refused}

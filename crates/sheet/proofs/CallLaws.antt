@@ -5,8 +5,8 @@ use Prim.Native.Nat.{ℕ, _≤_, _<_}
 use lib.ListN.{length}
 use borrow.Author.Tests.{le-leb, lt-leb}
 use Rattle.rules.specs.declared.Answer.the-variants.{Text, Refused}
-use Rattle.rules.specs.declared.Refusal.{Refusal}
-use Rattle.rules.specs.declared.Refusal.the-variants.{ShortBuffer}
+use Rattle.format.specs.declared.Refusal.{Refusal}
+use Rattle.format.specs.declared.Refusal.the-variants.{ShortBuffer}
 use Rattle.rules.specs.Answers.{says, refuses, fitted, left, callOf}
 use Rattle.writing.specs.Written.{Written}
 use Rattle.sheet.specs.Calls.{called}

@@ -4,12 +4,12 @@ use mathlib.Core.List.{List}
 use Prim.Native.Nat.{ℕ, _≤_, _<_}
 use native.Mathlib.Omega.{arith}
 use borrow.Author.Tests.{le-ltb}
-use Rattle.rules.specs.declared.Refusal.the-variants.{PastTheStop}
-use Rattle.rules.specs.Table.{Table}
-use Rattle.rules.specs.Servers.{boxOf}
-use Rattle.rules.specs.Reading.{Admission, admitted, refused, admissionOf}
+use Rattle.format.specs.declared.Refusal.the-variants.{PastTheStop}
+use Rattle.schedule.specs.Table.{Table}
+use Rattle.schedule.specs.Servers.{boxOf}
+use Rattle.rules.specs.Admission.{Admission, admitted, refused, admissionOf}
 use Rattle.rules.specs.Answers.{refuses, rowOf, rowOn}
-use Rattle.rules.proofs.Tests.{by-lt}
+use Rattle.schedule.proofs.Tests.{by-lt}
 use Rattle.reading.specs.Positions.{far, kept}
 use Rattle.walking.proofs.Walked.{stop}
 use Rattle.sheet.proofs.Room.{in-time}

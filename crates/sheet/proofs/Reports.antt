@@ -5,17 +5,17 @@ use Prim.Native.Nat.{ℕ, _≤_}
 use native.Mathlib.Omega.{arith}
 use lib.ListN.{take}
 use lib.Dec.{T}
-use Rattle.rules.specs.Limits as Limits
-use Rattle.rules.specs.WellFormed.{wellFormed}
-use Rattle.rules.specs.Table.{Table, hyperperiod}
-use Rattle.rules.specs.Servers.{boxOf, whole}
-use Rattle.rules.specs.Walk.{Stop, settled, unsettled, backlog, boundary, walked}
+use Rattle.schedule.specs.Limits as Limits
+use Rattle.schedule.specs.WellFormed.{wellFormed}
+use Rattle.schedule.specs.Table.{Table, hyperperiod}
+use Rattle.schedule.specs.Servers.{boxOf, whole}
+use Rattle.schedule.specs.Walk.{Stop, settled, unsettled, backlog, boundary, walked}
 use Rattle.planning.proofs.Boundaries.{last-boundary}
-use Rattle.rules.specs.Reading.{admitted, refused, admissionOf}
+use Rattle.rules.specs.Admission.{admitted, refused, admissionOf}
 use Rattle.rules.specs.Answers.{refuses, reportOn, reportOf}
-use Rattle.rules.specs.declared.Refusal.{Refusal}
-use Rattle.rules.proofs.Tests.{either-way}
-use Rattle.rules.proofs.FirstStop.{stops-in-time}
+use Rattle.format.specs.declared.Refusal.{Refusal}
+use Rattle.schedule.proofs.Tests.{either-way}
+use Rattle.theorems.proofs.FirstStop.{stops-in-time}
 use Rattle.rules.proofs.ReadWellFormed.{admitted-well-formed}
 use Rattle.window.specs.Entries.{lastKey}
 use Rattle.walking.proofs.Ends.{howOf}

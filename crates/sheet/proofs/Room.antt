@@ -9,17 +9,17 @@ use native.Mathlib.Nat.{div-le-self}
 use native.Mathlib.Omega.{arith}
 use lib.Dec.{eqb}
 use lib.ListN.{length, getD, length-map}
-use Rattle.rules.specs.Table.{Table}
-use Rattle.rules.specs.Servers.{Box, boxOf, whole}
-use Rattle.rules.specs.ServerJobs.{used}
-use Rattle.rules.specs.Links.{links}
-use Rattle.rules.specs.State.{sameState, state, stateAt}
-use Rattle.rules.specs.Walk.{Stop, settled, unsettled, backlog, backlogged, boundary, atBoundary, stopWith, stopAt, roundAt, figures, walked}
-use Rattle.rules.specs.Reading.{Admission, admitted, refused, admissionOf}
+use Rattle.schedule.specs.Table.{Table}
+use Rattle.schedule.specs.Servers.{Box, boxOf, whole}
+use Rattle.schedule.specs.ServerJobs.{used}
+use Rattle.schedule.specs.Links.{links}
+use Rattle.schedule.specs.State.{sameState, state, stateAt}
+use Rattle.schedule.specs.Walk.{Stop, settled, unsettled, backlog, backlogged, boundary, atBoundary, stopWith, stopAt, roundAt, figures, walked}
+use Rattle.rules.specs.Admission.{Admission, admitted, refused, admissionOf}
 use Rattle.rules.specs.Answers.{Reply, says, refuses, reportOn, reportOf, reportText}
-use Rattle.rules.proofs.FirstStop.{stopped-is-first, stops-in-time}
-use Rattle.rules.proofs.TableBox.{length-sinks}
-use Rattle.rules.proofs.LeastTrue.{figures-are-least-true}
+use Rattle.theorems.proofs.FirstStop.{stopped-is-first, stops-in-time}
+use Rattle.theorems.proofs.TableBox.{length-sinks}
+use Rattle.theorems.proofs.LeastTrue.{figures-are-least-true}
 use Rattle.planning.proofs.NodeFits.{few}
 use Rattle.planning.proofs.Boundaries.{last-boundary}
 use Rattle.window.proofs.Relation.{lastInstant}

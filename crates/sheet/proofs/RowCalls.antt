@@ -5,18 +5,18 @@ use Prim.Native.Nat.{ℕ, _≤_, _<_, min}
 use native.Mathlib.Omega.{arith}
 use lib.Dec.{T}
 use borrow.Author.Tests.{lt-ltb, le-ltb}
-use Rattle.rules.specs.Limits as Limits
-use Rattle.rules.specs.Table.{Table, hyperperiod}
-use Rattle.rules.specs.WellFormed.{wellFormed}
-use Rattle.rules.specs.Servers.{boxOf, whole}
-use Rattle.rules.specs.Walk.{Stop, settled, unsettled, backlog, boundary, walked}
-use Rattle.rules.specs.Reading.{admitted, refused, admissionOf}
+use Rattle.schedule.specs.Limits as Limits
+use Rattle.schedule.specs.Table.{Table, hyperperiod}
+use Rattle.schedule.specs.WellFormed.{wellFormed}
+use Rattle.schedule.specs.Servers.{boxOf, whole}
+use Rattle.schedule.specs.Walk.{Stop, settled, unsettled, backlog, boundary, walked}
+use Rattle.rules.specs.Admission.{admitted, refused, admissionOf}
 use Rattle.rules.specs.Answers as Rules
 use Rattle.rules.specs.Answers.{Reply, says, refuses, rowText, rowOn}
-use Rattle.rules.specs.declared.Refusal.{Refusal}
-use Rattle.rules.specs.declared.Refusal.the-variants.{PastTheStop}
-use Rattle.rules.proofs.Tests.{either-way}
-use Rattle.rules.proofs.FirstStop.{stops-in-time}
+use Rattle.format.specs.declared.Refusal.{Refusal}
+use Rattle.format.specs.declared.Refusal.the-variants.{PastTheStop}
+use Rattle.schedule.proofs.Tests.{either-way}
+use Rattle.theorems.proofs.FirstStop.{stops-in-time}
 use Rattle.reading.specs.Admission.{codedAdmission}
 use Rattle.reading.specs.declared.admission.Admitted.{Admitted}
 use Rattle.window.specs.Entries.{lastKey}

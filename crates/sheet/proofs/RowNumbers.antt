@@ -7,15 +7,15 @@ use native.Mathlib.Nat.{div-le-self}
 use native.Mathlib.Omega.{arith}
 use lib.Dec.{ltb, eqb}
 use lib.ListN.{length, getD}
-use Rattle.rules.specs.Limits as Limits
-use Rattle.rules.specs.Lists.{keep, joined}
-use Rattle.rules.specs.Table.{Graph, Node}
-use Rattle.rules.specs.Servers.{Server, noServer, ofNodes, ofGraphs, srv, Box}
-use Rattle.rules.specs.ServerJobs.{ServerJob, released, releasedBefore, jobsFrom, ready, readyJobs, rank, used}
-use Rattle.rules.specs.Walk.{runningAt, rowAt}
-use Rattle.rules.proofs.Tests.{either-way, dec}
-use Rattle.rules.proofs.LinkRows.{InOrder, linked-le}
-use Rattle.rules.proofs.Linking.{linkOf, links-in-order}
+use Rattle.schedule.specs.Limits as Limits
+use Rattle.schedule.specs.Lists.{keep, joined}
+use Rattle.schedule.specs.Table.{Graph, Node}
+use Rattle.schedule.specs.Servers.{Server, noServer, ofNodes, ofGraphs, srv, Box}
+use Rattle.schedule.specs.ServerJobs.{ServerJob, released, releasedBefore, jobsFrom, ready, readyJobs, rank, used}
+use Rattle.schedule.specs.Walk.{runningAt, rowAt}
+use Rattle.schedule.proofs.Tests.{either-way, dec}
+use Rattle.theorems.proofs.LinkRows.{InOrder, linked-le}
+use Rattle.theorems.proofs.Linking.{linkOf, links-in-order}
 use Rattle.rules.proofs.ReadWellFormed.{nodesIn}
 use Rattle.window.proofs.Relation.{lastInstant}
 use Rattle.sheet.proofs.TextLengths.{Each, SmallRun}

@@ -5,14 +5,14 @@ use Prim.Native.Nat.{ℕ, _≤_, _<_}
 use native.Mathlib.Omega.{arith}
 use lib.ListN.{length, take, length-map, length-take}
 use borrow.Author.Tests.{lt-ltb, le-ltb}
-use Rattle.rules.specs.Limits as Limits
-use Rattle.rules.specs.declared.Refusal.the-variants.{PastTheStop}
-use Rattle.rules.specs.Table.{Table}
-use Rattle.rules.specs.Servers.{Box, boxOf, whole}
-use Rattle.rules.specs.Walk.{rowAt}
-use Rattle.rules.specs.Reading.{Admission, admitted, refused, admissionOf}
+use Rattle.schedule.specs.Limits as Limits
+use Rattle.format.specs.declared.Refusal.the-variants.{PastTheStop}
+use Rattle.schedule.specs.Table.{Table}
+use Rattle.schedule.specs.Servers.{Box, boxOf, whole}
+use Rattle.schedule.specs.Walk.{rowAt}
+use Rattle.rules.specs.Admission.{Admission, admitted, refused, admissionOf}
 use Rattle.rules.specs.Answers.{says, refuses, rowOf, rowOn, rowText}
-use Rattle.rules.proofs.Tests.{by-lt, either-way}
+use Rattle.schedule.proofs.Tests.{by-lt, either-way}
 use Rattle.planning.specs.Plans.{planOf}
 use Rattle.planning.specs.Offsets.{offsetsOf}
 use Rattle.planning.proofs.NodeFits.{few, room}

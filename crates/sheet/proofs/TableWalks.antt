@@ -10,13 +10,13 @@ use lib.Dec.{T}
 use lib.ListN.{length, getD, take, replicate, length-map}
 use lib.Seq.{ext-getD, getD-take, length-take-le}
 use borrow.Author.Tests.{lt-ltb, le-ltb}
-use Rattle.rules.specs.Limits as Limits
-use Rattle.rules.specs.Table.{Table, Graph, hyperperiod}
-use Rattle.rules.specs.Servers.{Box, sinksOf, boxOf, whole}
-use Rattle.rules.specs.Walk.{figure, figures}
-use Rattle.rules.specs.Reading.{admitted}
-use Rattle.rules.specs.WellFormed.{wellFormed}
-use Rattle.rules.proofs.TableBox.{length-sinks, server-fits, sink-is}
+use Rattle.schedule.specs.Limits as Limits
+use Rattle.schedule.specs.Table.{Table, Graph, hyperperiod}
+use Rattle.schedule.specs.Servers.{Box, sinksOf, boxOf, whole}
+use Rattle.schedule.specs.Walk.{figure, figures}
+use Rattle.rules.specs.Admission.{admitted}
+use Rattle.schedule.specs.WellFormed.{wellFormed}
+use Rattle.theorems.proofs.TableBox.{length-sinks, server-fits, sink-is}
 use Rattle.table.specs.Fresh as Fresh
 use Rattle.table.specs.declared.State.{State}
 use Rattle.table.specs.declared.Table.{Table as Memory}
@@ -29,7 +29,7 @@ use Rattle.reading.specs.declared.admission.Admitted.{Admitted}
 use Rattle.planning.specs.Plans.{planOf}
 use Rattle.planning.specs.Offsets.{offsetsOf}
 use Rattle.planning.proofs.Located.{graphAt, firstOf, first-within}
-use Rattle.rules.proofs.Cells.{getD-map}
+use Rattle.schedule.proofs.Cells.{getD-map}
 use Rattle.reading.proofs.MemoryLaws.{rounds-stay}
 use Rattle.planning.proofs.Memory.{codedGraph}
 use Rattle.planning.proofs.NodeFits.{few, room, laid}

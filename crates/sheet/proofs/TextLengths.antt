@@ -4,9 +4,9 @@ use Prim.Native.Nat.{ℕ, suc, _+_, _-_, _*_, _^_, _≤_, _<_}
 use Prim.Native.String.{String}
 use native.Mathlib.Omega.{arith}
 use lib.ListN.{length, getD, length-append}
-use Rattle.rules.specs.Limits as Limits
-use Rattle.rules.specs.Bytes.{bytes, equals, comma, lineFeed, decimal}
-use Rattle.rules.specs.Walk.{Running}
+use Rattle.schedule.specs.Limits as Limits
+use Rattle.format.specs.Bytes.{bytes, equals, comma, lineFeed, decimal}
+use Rattle.schedule.specs.Walk.{Running}
 use Rattle.rules.specs.Answers.{answerLine, responseLines, reportText, rowText}
 use Rattle.writing.specs.Lengths.{mostDigits, longestLine, longestRun, longestReport}
 use Rattle.writing.proofs.Counting.{digits-most}

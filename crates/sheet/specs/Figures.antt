@@ -4,7 +4,7 @@ use mathlib.Core.List.{List}
 use Prim.Native.Nat.{ℕ, _+_, _-_}
 use lib.Dec.{ltb}
 use lib.ListN.{getD, replicate}
-use Rattle.rules.specs.Limits as Limits
+use Rattle.schedule.specs.Limits as Limits
 use Rattle.table.specs.declared.Graph.{Graph}
 use Rattle.table.specs.declared.Table.{Table}
 use Rattle.table.specs.Fresh.{noGraph}

@@ -1,5 +1,5 @@
 -- The row of a walk in memory: what `row_walk` answers. For the proof, not for belief.
-use Rattle.rules.specs.declared.Refusal.the-variants.{PastTheStop}
+use Rattle.format.specs.declared.Refusal.the-variants.{PastTheStop}
 use Rattle.rules.specs.Answers.{Reply, says, refuses, rowText}
 use Rattle.table.specs.declared.Table.{Table}
 use Rattle.planning.specs.Plans.{planOf}

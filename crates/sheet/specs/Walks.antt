@@ -1,7 +1,7 @@
 -- The walk of a table in memory: what `walked` computes, and when. For the proof, not for belief.
 use Prim.Native.Nat.{ℕ, _+_, _*_, _≤_}
-use Rattle.rules.specs.Limits as Limits
-use Rattle.rules.specs.Walk.{Stop, settled, unsettled, backlog}
+use Rattle.schedule.specs.Limits as Limits
+use Rattle.schedule.specs.Walk.{Stop, settled, unsettled, backlog}
 use Rattle.reading.specs.declared.admission.Admitted.{Admitted}
 use Rattle.planning.specs.Plans.{planOf}
 use Rattle.planning.specs.Offsets.{offsetsOf, largestOffsetOf}

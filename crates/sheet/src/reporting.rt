@@ -1,18 +1,18 @@
 // The report of a table: the walk to its stop, and the text of its figures in the lent buffer.
 use crate::figures::figures_of;
 use crate::walks::walked;
+use format::Refusal;
 use reading::Verdict;
 use rules::Answer;
-use rules::Refusal;
 use table::Table;
 use walking::How;
 use walking::Walk;
 ghost use mathlib.Core.Path.{_≡_};
 ghost use Prim.Native.Nat.{_≤_};
 ghost use lib.ListN.{take};
-ghost use Rattle.rules.specs.Limits as Limits;
+ghost use Rattle.schedule.specs.Limits as Limits;
 ghost use Rattle.rules.specs.Answers.{says, reportText, reportOn, reportOf, callOf};
-ghost use Rattle.rules.specs.Refusals.{answerNumber};
+ghost use Rattle.rules.specs.AnswerNumbers.{answerNumber};
 ghost use Rattle.rules.specs.Demands.{TrueReport};
 ghost use Rattle.sheet.specs.Figures.{figuresOf};
 ghost use Rattle.sheet.specs.Walks.{stopOf};

@@ -1,15 +1,15 @@
 // The row of a table at an instant: the walk to that instant, and the text of what runs there in the lent buffer.
 use crate::walks::walked;
+use format::Refusal;
 use reading::Verdict;
 use rules::Answer;
-use rules::Refusal;
 use table::Table;
 use walking::How;
 use walking::Walk;
 use writing::Row;
 ghost use mathlib.Core.Path.{_≡_};
 ghost use Prim.Native.Nat.{_≤_, min};
-ghost use Rattle.rules.specs.Limits as Limits;
+ghost use Rattle.schedule.specs.Limits as Limits;
 ghost use Rattle.rules.specs.Answers.{says, rowText, rowOf, callOf};
 ghost use Rattle.planning.specs.Plans.{planOf};
 ghost use Rattle.window.specs.Entries.{lastKey};

@@ -3,7 +3,7 @@
 use table::Table;
 ghost use mathlib.Core.Path.{_≡_};
 ghost use Prim.Native.Nat.{_-_, _%_, _≤_, min};
-ghost use Rattle.rules.specs.Limits as Limits;
+ghost use Rattle.schedule.specs.Limits as Limits;
 ghost use Rattle.window.specs.Entries.{slots};
 ghost use Rattle.window.specs.Spending as Mirror;
 

@@ -2,7 +2,7 @@
 use mathlib.Core.List.{_++_}
 use Prim.Native.Nat.{ℕ}
 use lib.ListN.{length, take, replicate}
-use Rattle.rules.specs.Keys as Rules
+use Rattle.format.specs.Keys as Rules
 use Rattle.table.specs.declared.Key.{Key}
 use Rattle.table.specs.Limits.{coded}
 

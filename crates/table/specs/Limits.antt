@@ -1,5 +1,5 @@
 -- The rules' limits in the form of the code's struct: what the associated constants are proved to be.
-use Rattle.rules.specs.Limits as Rules
+use Rattle.schedule.specs.Limits as Rules
 use Rattle.table.specs.declared.Range.{Range}
 use Rattle.table.specs.declared.Limits.{Limits}
 

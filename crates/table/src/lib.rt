@@ -1,7 +1,7 @@
 // The table in memory, with every limit of document 01 as an associated constant; the nine keys; the windows that a walk keeps, with
 // the functions that make an empty server and the fresh state.
 ghost use mathlib.Core.Path.{_≡_};
-ghost use Rattle.rules.specs.Keys.{keyAt};
+ghost use Rattle.format.specs.Keys.{keyAt};
 ghost use Rattle.table.specs.Limits.{limits};
 ghost use Rattle.table.specs.Keys.{codedKey};
 ghost use Rattle.table.specs.Fresh.{emptyTable, emptyServer, freshState};

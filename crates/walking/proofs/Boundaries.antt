@@ -8,9 +8,9 @@ use native.Mathlib.Nat.{mul-pos}
 use native.Mathlib.Omega.{arith}
 use lib.Dec.{ltb, eqb}
 use borrow.Author.Tests.{lt-ltb, le-ltb, eq-eqb, ne-eqb}
-use Rattle.rules.specs.Servers.{Box}
-use Rattle.rules.specs.Walk.{boundary, atBoundary, roundAt}
-use Rattle.rules.proofs.Tests.{by-lt}
+use Rattle.schedule.specs.Servers.{Box}
+use Rattle.schedule.specs.Walk.{boundary, atBoundary, roundAt}
+use Rattle.schedule.proofs.Tests.{by-lt}
 
 -- `next` is the first boundary at or after t, boundary `round`
 pub record Next (X : Box) (t next round : ℕ) : Type 0 where

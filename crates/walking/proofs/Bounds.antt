@@ -6,8 +6,8 @@ use native.Mathlib.Nat.{mul-le-mul-right}
 use native.Mathlib.Omega.{arith}
 use lib.ListN.{getD}
 use borrow.Author.Tests.{lt-ltb, le-ltb}
-use Rattle.rules.specs.Limits as Limits
-use Rattle.rules.proofs.Tests.{by-lt}
+use Rattle.schedule.specs.Limits as Limits
+use Rattle.schedule.proofs.Tests.{by-lt}
 use Rattle.window.specs.Entries.{further}
 use Rattle.window.specs.Spending.{ticksTo, placeAt, lesser, leastLeft}
 

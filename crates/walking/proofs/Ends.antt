@@ -11,16 +11,16 @@ use native.Mathlib.Omega.{arith}
 use lib.Dec.{ltb, eqb}
 use lib.ListN.{length}
 use borrow.Author.Tests.{eqb-true, eqb-false, ltb-true}
-use Rattle.rules.specs.Servers.{Box, srv, whole}
-use Rattle.rules.specs.ServerJobs.{used}
-use Rattle.rules.specs.Links.{links}
-use Rattle.rules.specs.State.{sameState, state, stateAt}
-use Rattle.rules.specs.Walk as Rules
-use Rattle.rules.specs.Walk.{Stop, settled, unsettled, backlog, boundary, atBoundary, roundAt, stopWith, stopAt}
-use Rattle.rules.proofs.Tests.{by-lt, either-way, dec}
-use Rattle.rules.proofs.Unique.{FirstStop}
-use Rattle.rules.proofs.QuietSpans.{Quiet}
-use Rattle.rules.proofs.QuietWalk.{whole-ahead, goes-on-within}
+use Rattle.schedule.specs.Servers.{Box, srv, whole}
+use Rattle.schedule.specs.ServerJobs.{used}
+use Rattle.schedule.specs.Links.{links}
+use Rattle.schedule.specs.State.{sameState, state, stateAt}
+use Rattle.schedule.specs.Walk as Rules
+use Rattle.schedule.specs.Walk.{Stop, settled, unsettled, backlog, boundary, atBoundary, roundAt, stopWith, stopAt}
+use Rattle.schedule.proofs.Tests.{by-lt, either-way, dec}
+use Rattle.theorems.proofs.Unique.{FirstStop}
+use Rattle.theorems.proofs.QuietSpans.{Quiet}
+use Rattle.theorems.proofs.QuietWalk.{whole-ahead, goes-on-within}
 use Rattle.table.specs.declared.State.{State}
 use Rattle.table.specs.declared.Kept.{Kept}
 use Rattle.table.specs.Fresh.{freshState}

@@ -8,8 +8,8 @@ use native.Mathlib.Omega.{arith}
 use lib.Dec.{leb, ltb, eqb}
 use lib.ListN.{getD, set}
 use borrow.Author.Tests.{ltb-true, leb-true, lt-ltb, le-ltb}
-use Rattle.rules.specs.Limits as Limits
-use Rattle.rules.proofs.Tests.{and-l, and-r, T-true, true-T}
+use Rattle.schedule.specs.Limits as Limits
+use Rattle.schedule.proofs.Tests.{and-l, and-r, T-true, true-T}
 use Rattle.table.specs.declared.Pending.{Pending}
 use Rattle.table.specs.declared.Server.{Server}
 use Rattle.table.specs.declared.State.{State}

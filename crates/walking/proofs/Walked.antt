@@ -7,11 +7,11 @@ use mathlib.Core.Logic.{_⊎_, inl, inr}
 use Prim.Native.Nat.{ℕ, _+_, _*_, _≤_, _<_}
 use native.Mathlib.Omega.{arith}
 use lib.ListN.{length, getD}
-use Rattle.rules.specs.Servers.{Box, srv, whole}
-use Rattle.rules.specs.Walk.{Stopped, stopped}
-use Rattle.rules.proofs.Tests.{by-lt, either-way}
-use Rattle.rules.proofs.Unique.{first-stop-is-unique}
-use Rattle.rules.proofs.FirstStop.{stopped-is-first}
+use Rattle.schedule.specs.Servers.{Box, srv, whole}
+use Rattle.schedule.specs.Walk.{Stopped, stopped}
+use Rattle.schedule.proofs.Tests.{by-lt, either-way}
+use Rattle.theorems.proofs.Unique.{first-stop-is-unique}
+use Rattle.theorems.proofs.FirstStop.{stopped-is-first}
 use Rattle.table.specs.declared.State.{State}
 use Rattle.window.specs.declared.Plan.{Plan}
 use Rattle.window.specs.Entries.{places}

@@ -6,7 +6,7 @@ use table::Table;
 use window::Plan;
 ghost use mathlib.Core.Path.{_≡_};
 ghost use Prim.Native.Nat.{_+_, _*_, _≤_};
-ghost use Rattle.rules.specs.Limits as Limits;
+ghost use Rattle.schedule.specs.Limits as Limits;
 ghost use Rattle.walking.specs.Walking as Mirror;
 
 // How a walk ended: in one of document 01's three ways, settled with its round; or at the instant asked, before any of them.

@@ -7,19 +7,19 @@ use native.Mathlib.Nat.{le-refl}
 use native.Mathlib.Omega.{arith}
 use lib.Dec.{T, ltb, eqb, ltb→lt, eqb→eq}
 use lib.ListN.{length}
-use Rattle.rules.specs.Limits as Limits
-use Rattle.rules.specs.Lists.{any?}
-use Rattle.rules.specs.Servers.{Server, srv, Box, whole}
-use Rattle.rules.specs.ServerJobs.{released, releasedBefore, used}
-use Rattle.rules.specs.Links.{dueAfter, due, links, dueBy, finishedBy}
-use Rattle.rules.specs.State.{NodeState, finishedCount, nodeState}
-use Rattle.rules.proofs.Tests.{and-l, and-r, by-lt, either-way}
-use Rattle.rules.proofs.Counts.{first-pass, pass-first}
-use Rattle.rules.proofs.InTurn.{completed-le}
-use Rattle.rules.proofs.Linking.{linkOf, newLink, newLink-is, linkedCount, linked-count, links-old, links-new, links-none}
-use Rattle.rules.proofs.Finishing.{Finished, finished-is, is-finished, finished-stays, finished-in-order, finished-number}
-use Rattle.rules.proofs.TableBox.{beside}
-use Rattle.rules.proofs.Window.{nodeAt}
+use Rattle.schedule.specs.Limits as Limits
+use Rattle.schedule.specs.Lists.{any?}
+use Rattle.schedule.specs.Servers.{Server, srv, Box, whole}
+use Rattle.schedule.specs.ServerJobs.{released, releasedBefore, used}
+use Rattle.schedule.specs.Links.{dueAfter, due, links, dueBy, finishedBy}
+use Rattle.schedule.specs.State.{NodeState, finishedCount, nodeState}
+use Rattle.schedule.proofs.Tests.{and-l, and-r, by-lt, either-way}
+use Rattle.theorems.proofs.Counts.{first-pass, pass-first}
+use Rattle.theorems.proofs.InTurn.{completed-le}
+use Rattle.theorems.proofs.Linking.{linkOf, newLink, newLink-is, linkedCount, linked-count, links-old, links-new, links-none}
+use Rattle.theorems.proofs.Finishing.{Finished, finished-is, is-finished, finished-stays, finished-in-order, finished-number}
+use Rattle.theorems.proofs.TableBox.{beside}
+use Rattle.theorems.proofs.Window.{nodeAt}
 use Rattle.table.specs.declared.State.{State}
 use Rattle.window.specs.declared.Plan.{Plan}
 use Rattle.window.specs.Entries.{unfinishedAt, unlinkedAt}

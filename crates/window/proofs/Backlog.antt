@@ -8,17 +8,17 @@ use native.Mathlib.Omega.{arith}
 use lib.Dec.{T, leb, ltb, eqb, leb→le, ltb→lt, le→leb, lt→ltb, eqb→eq}
 use lib.ListN.{length}
 use borrow.Author.Tests.{lt-ltb, le-ltb, le-leb, lt-leb, eq-eqb}
-use Rattle.rules.specs.Limits as Limits
-use Rattle.rules.specs.Lists.{one?, count, any?, numbers, upTo}
-use Rattle.rules.specs.Servers.{Server, srv, Box, whole}
-use Rattle.rules.specs.ServerJobs.{released, pending, used}
-use Rattle.rules.specs.Links.{links, finishedBy}
-use Rattle.rules.specs.State.{finishedCount}
-use Rattle.rules.specs.Walk as Walk
-use Rattle.rules.proofs.Tests.{and-l, and-r, and-i, or-l, or-r, or-e, either-way, by-lt, dec, T-true, true-T, bool-ext}
-use Rattle.rules.proofs.Counts.{some-in, in-some}
-use Rattle.rules.proofs.Releases.{releasedBefore-le}
-use Rattle.rules.proofs.InTurn.{completed, completed-le, pending-are-last}
+use Rattle.schedule.specs.Limits as Limits
+use Rattle.schedule.specs.Lists.{one?, count, any?, numbers, upTo}
+use Rattle.schedule.specs.Servers.{Server, srv, Box, whole}
+use Rattle.schedule.specs.ServerJobs.{released, pending, used}
+use Rattle.schedule.specs.Links.{links, finishedBy}
+use Rattle.schedule.specs.State.{finishedCount}
+use Rattle.schedule.specs.Walk as Walk
+use Rattle.schedule.proofs.Tests.{and-l, and-r, and-i, or-l, or-r, or-e, either-way, by-lt, dec, T-true, true-T, bool-ext}
+use Rattle.theorems.proofs.Counts.{some-in, in-some}
+use Rattle.theorems.proofs.Releases.{releasedBefore-le}
+use Rattle.theorems.proofs.InTurn.{completed, completed-le, pending-are-last}
 use Rattle.table.specs.declared.State.{State}
 use Rattle.window.specs.declared.Plan.{Plan}
 use Rattle.window.specs.Entries.{window, countAt, unfinishedAt, nextAt, roomAt, nodesOf}

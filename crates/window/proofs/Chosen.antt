@@ -6,12 +6,12 @@ use Prim.Native.Nat.{ℕ, suc, _+_, _*_, _≤_, _<_}
 use native.Mathlib.Omega.{arith}
 use lib.Dec.{T, ltb, ltb→lt, lt→ltb}
 use lib.ListN.{length, getD, length-replicate}
-use Rattle.rules.specs.Limits as Limits
-use Rattle.rules.specs.Servers.{Server, Box}
-use Rattle.rules.specs.ServerJobs.{ServerJob, runs}
-use Rattle.rules.proofs.Tests.{and-l, and-r, and-i, by-lt}
-use Rattle.rules.proofs.Counts.{serverJob}
-use Rattle.rules.proofs.InTurn.{running, completed}
+use Rattle.schedule.specs.Limits as Limits
+use Rattle.schedule.specs.Servers.{Server, Box}
+use Rattle.schedule.specs.ServerJobs.{ServerJob, runs}
+use Rattle.schedule.proofs.Tests.{and-l, and-r, and-i, by-lt}
+use Rattle.theorems.proofs.Counts.{serverJob}
+use Rattle.theorems.proofs.InTurn.{running, completed}
 use Rattle.table.specs.declared.State.{State}
 use Rattle.window.specs.declared.Plan.{Plan}
 use Rattle.window.specs.Entries.{window, lastKey, nodesOf}

@@ -10,14 +10,14 @@ use native.Mathlib.Omega.{arith}
 use lib.Dec.{T, eqb, eqb→eq}
 use lib.ListN.{length}
 use borrow.Author.Tests.{eq-eqb, ne-eqb}
-use Rattle.rules.specs.Lists.{all?, alike, tab, sameOption}
-use Rattle.rules.specs.Servers.{Server, srv, Box, whole}
-use Rattle.rules.specs.ServerJobs.{used}
-use Rattle.rules.specs.Links.{links}
-use Rattle.rules.specs.State as Rules
-use Rattle.rules.specs.State.{sameNode, sameState, phase, state, stateAt}
-use Rattle.rules.proofs.Tests.{and-l, and-r, and-i, by-lt, bool-ext, eq→eqb}
-use Rattle.rules.proofs.Window.{nodeAt}
+use Rattle.schedule.specs.Lists.{all?, alike, tab, sameOption}
+use Rattle.schedule.specs.Servers.{Server, srv, Box, whole}
+use Rattle.schedule.specs.ServerJobs.{used}
+use Rattle.schedule.specs.Links.{links}
+use Rattle.schedule.specs.State as Rules
+use Rattle.schedule.specs.State.{sameNode, sameState, phase, state, stateAt}
+use Rattle.schedule.proofs.Tests.{and-l, and-r, and-i, by-lt, bool-ext, eq→eqb}
+use Rattle.theorems.proofs.Window.{nodeAt}
 use Rattle.table.specs.declared.Pending.{Pending}
 use Rattle.table.specs.declared.State.{State}
 use Rattle.table.specs.declared.Kept.{Kept}

@@ -8,18 +8,18 @@ use native.Mathlib.Nat.{le-refl}
 use native.Mathlib.Omega.{arith}
 use lib.Dec.{T}
 use lib.ListN.{length}
-use Rattle.rules.specs.Lists.{count, upTo}
-use Rattle.rules.specs.Servers.{Server, srv, Box, whole}
-use Rattle.rules.specs.ServerJobs.{releasedBefore}
-use Rattle.rules.specs.Links.{finishedBy}
-use Rattle.rules.specs.State.{NodeState, finishedCount, nodeState}
-use Rattle.rules.proofs.Tests.{by-lt, one-of, none-of}
-use Rattle.rules.proofs.Counts.{upTo-last, first-pass, pass-first}
-use Rattle.rules.proofs.InTurn.{completed, completed-le, is-complete, not-complete}
-use Rattle.rules.proofs.LinkRows.{linkedUpTo, linked-le, linked-grows, linked-at, linked-find}
-use Rattle.rules.proofs.Linking.{linkOf, linked-count, links-in-order}
-use Rattle.rules.proofs.Finishing.{finished-is, is-finished, finished-in-order}
-use Rattle.rules.proofs.Window.{nodeAt}
+use Rattle.schedule.specs.Lists.{count, upTo}
+use Rattle.schedule.specs.Servers.{Server, srv, Box, whole}
+use Rattle.schedule.specs.ServerJobs.{releasedBefore}
+use Rattle.schedule.specs.Links.{finishedBy}
+use Rattle.schedule.specs.State.{NodeState, finishedCount, nodeState}
+use Rattle.schedule.proofs.Tests.{by-lt, one-of, none-of}
+use Rattle.theorems.proofs.Counts.{upTo-last, first-pass, pass-first}
+use Rattle.theorems.proofs.InTurn.{completed, completed-le, is-complete, not-complete}
+use Rattle.theorems.proofs.LinkRows.{linkedUpTo, linked-le, linked-grows, linked-at, linked-find}
+use Rattle.theorems.proofs.Linking.{linkOf, linked-count, links-in-order}
+use Rattle.theorems.proofs.Finishing.{finished-is, is-finished, finished-in-order}
+use Rattle.theorems.proofs.Window.{nodeAt}
 use Rattle.table.specs.declared.State.{State}
 use Rattle.window.specs.Entries.{unfinishedAt, unlinkedAt}
 use Rattle.window.proofs.Relation.{InStep}

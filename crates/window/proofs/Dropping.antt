@@ -8,11 +8,11 @@ use lib.Dec.{ltb}
 use lib.ListN.{length, length-set}
 use lib.Seq.{getD-set-same, getD-set-other}
 use borrow.Author.Tests.{lt-ltb, le-ltb}
-use Rattle.rules.specs.Lists.{one?}
-use Rattle.rules.specs.Servers.{Server}
-use Rattle.rules.specs.ServerJobs.{priorityOf}
-use Rattle.rules.proofs.Tests.{one-le-one}
-use Rattle.rules.proofs.LinkRows.{linkedUpTo, linked-last, linked-le}
+use Rattle.schedule.specs.Lists.{one?}
+use Rattle.schedule.specs.Servers.{Server}
+use Rattle.schedule.specs.ServerJobs.{priorityOf}
+use Rattle.schedule.proofs.Tests.{one-le-one}
+use Rattle.theorems.proofs.LinkRows.{linkedUpTo, linked-last, linked-le}
 use Rattle.table.specs.declared.Pending.{Pending}
 use Rattle.table.specs.declared.State.{State}
 use Rattle.window.specs.declared.Plan.{Plan}

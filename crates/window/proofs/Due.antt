@@ -6,15 +6,15 @@ use Prim.Native.Nat.{ℕ, suc, _+_, _<_}
 use native.Mathlib.Omega.{arith}
 use lib.Dec.{T, ltb, eqb, T-not}
 use lib.ListN.{length}
-use Rattle.rules.specs.Lists.{any?, all?}
-use Rattle.rules.specs.Servers.{Server, srv, Box, whole}
-use Rattle.rules.specs.ServerJobs.{released, releasedBefore}
-use Rattle.rules.specs.Links.{dueBy}
-use Rattle.rules.proofs.Tests.{or-l, or-r, or-e, either-way, dec, true-T, bool-ext, eq→eqb}
-use Rattle.rules.proofs.LinkRows.{linkedUpTo}
-use Rattle.rules.proofs.Linking.{linkOf, newLink-is, linkedCount, links-new}
-use Rattle.rules.proofs.TableBox.{beside}
-use Rattle.rules.proofs.Window.{alongside, fewer, due-by-counts}
+use Rattle.schedule.specs.Lists.{any?, all?}
+use Rattle.schedule.specs.Servers.{Server, srv, Box, whole}
+use Rattle.schedule.specs.ServerJobs.{released, releasedBefore}
+use Rattle.schedule.specs.Links.{dueBy}
+use Rattle.schedule.proofs.Tests.{or-l, or-r, or-e, either-way, dec, true-T, bool-ext, eq→eqb}
+use Rattle.theorems.proofs.LinkRows.{linkedUpTo}
+use Rattle.theorems.proofs.Linking.{linkOf, newLink-is, linkedCount, links-new}
+use Rattle.theorems.proofs.TableBox.{beside}
+use Rattle.theorems.proofs.Window.{alongside, fewer, due-by-counts}
 use Rattle.numbers.specs.Masks.{bit}
 use Rattle.table.specs.declared.State.{State}
 use Rattle.window.specs.declared.Plan.{Plan}

@@ -6,9 +6,9 @@ use Prim.Native.Nat.{ℕ, zero, suc, _≤_, _<_}
 use native.Mathlib.Nat.{not-suc-le-zero}
 use native.Mathlib.Omega.{arith}
 use lib.ListN.{length, getD}
-use Rattle.rules.specs.Servers.{srv, Box}
-use Rattle.rules.specs.ServerJobs.{releaseOf, released}
-use Rattle.rules.proofs.Tests.{by-lt}
+use Rattle.schedule.specs.Servers.{srv, Box}
+use Rattle.schedule.specs.ServerJobs.{releaseOf, released}
+use Rattle.schedule.proofs.Tests.{by-lt}
 use Rattle.table.specs.declared.State.{State}
 use Rattle.window.specs.declared.Plan.{Plan}
 use Rattle.window.specs.Entries.{lastKey, nextAt, nodesOf}

@@ -3,7 +3,7 @@ use Prim.Native.Nat.{ℕ, zero, suc, _≤_}
 use mathlib.Core.List.{List}
 use native.Mathlib.Omega.{arith}
 use lib.Dec.{eqb}
-use Rattle.rules.proofs.Tests.{by-test}
+use Rattle.schedule.proofs.Tests.{by-test}
 use Rattle.window.specs.declared.Plan.{Plan}
 use Rattle.window.specs.Entries.{lastKey, nodesOf}
 use Rattle.window.specs.Choosing.{Picks, bestOf, picks, noRun, noAt, chosenBy}

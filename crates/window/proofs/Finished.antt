@@ -9,16 +9,16 @@ use native.Mathlib.Omega.{arith}
 use lib.Dec.{T, leb, ltb, eqb, ltb→lt, eqb→eq}
 use lib.ListN.{length, getD}
 use borrow.Author.Tests.{lt-ltb, le-ltb, le-leb, eq-eqb}
-use Rattle.rules.specs.Lists.{one?}
-use Rattle.rules.specs.Servers.{Server, srv, Box, whole}
-use Rattle.rules.specs.ServerJobs.{releaseOf, released, releasedBefore, priorityOf}
-use Rattle.rules.proofs.Tests.{by-lt, either-way, dec, true-T, and-l, and-r}
-use Rattle.rules.proofs.Counts.{serverJob}
-use Rattle.rules.proofs.Releases.{releasedBefore-le}
-use Rattle.rules.proofs.InTurn.{usedBy, running, completed, completed-le, is-complete, not-complete}
-use Rattle.rules.proofs.Linking.{linkOf}
-use Rattle.rules.proofs.Finishing.{link-le}
-use Rattle.rules.proofs.QuietSpans.{grown}
+use Rattle.schedule.specs.Lists.{one?}
+use Rattle.schedule.specs.Servers.{Server, srv, Box, whole}
+use Rattle.schedule.specs.ServerJobs.{releaseOf, released, releasedBefore, priorityOf}
+use Rattle.schedule.proofs.Tests.{by-lt, either-way, dec, true-T, and-l, and-r}
+use Rattle.theorems.proofs.Counts.{serverJob}
+use Rattle.theorems.proofs.Releases.{releasedBefore-le}
+use Rattle.theorems.proofs.InTurn.{usedBy, running, completed, completed-le, is-complete, not-complete}
+use Rattle.theorems.proofs.Linking.{linkOf}
+use Rattle.theorems.proofs.Finishing.{link-le}
+use Rattle.theorems.proofs.QuietSpans.{grown}
 use Rattle.table.specs.declared.State.{State}
 use Rattle.window.specs.declared.Plan.{Plan}
 use Rattle.window.specs.Entries.{places, window, further, countAt, firstAt, nextAt, leftAt, periodAt, stepAt}

@@ -5,12 +5,12 @@ use Prim.Native.Nat.{ℕ, _<_}
 use native.Mathlib.Nat.{zero-mul}
 use native.Mathlib.Omega.{arith}
 use lib.ListN.{length, getD, length-replicate, getD-replicate}
-use Rattle.rules.specs.Servers.{Server, srv, Box, whole}
-use Rattle.rules.specs.ServerJobs.{releasedBefore}
-use Rattle.rules.specs.Walk.{figure}
-use Rattle.rules.proofs.InTurn.{usedBy, completed, completed-le}
-use Rattle.rules.proofs.LinkRows.{linked-zero}
-use Rattle.rules.proofs.Linking.{linkOf}
+use Rattle.schedule.specs.Servers.{Server, srv, Box, whole}
+use Rattle.schedule.specs.ServerJobs.{releasedBefore}
+use Rattle.schedule.specs.Walk.{figure}
+use Rattle.theorems.proofs.InTurn.{usedBy, completed, completed-le}
+use Rattle.theorems.proofs.LinkRows.{linked-zero}
+use Rattle.theorems.proofs.Linking.{linkOf}
 use Rattle.table.specs.Fresh.{noJob, emptyServer, noKey, freshState}
 use Rattle.table.specs.declared.State.{State}
 use Rattle.window.specs.declared.Plan.{Plan}

@@ -7,11 +7,11 @@ use native.Mathlib.Nat.{suc-mul, zero-mul, mul-mod-left, add-mul-mod-self-right,
 use native.Mathlib.Omega.{arith}
 use lib.Dec.{eqb}
 use borrow.Author.Tests.{lt-ltb, le-ltb, eq-eqb, ne-eqb}
-use Rattle.rules.specs.Lists.{one?}
-use Rattle.rules.specs.Servers.{Server}
-use Rattle.rules.specs.ServerJobs.{releaseOf, released, releasedBefore, priorityOf}
-use Rattle.rules.proofs.Tests.{by-lt}
-use Rattle.rules.proofs.Releases.{releasedBefore-le, releasedBefore-one}
+use Rattle.schedule.specs.Lists.{one?}
+use Rattle.schedule.specs.Servers.{Server}
+use Rattle.schedule.specs.ServerJobs.{releaseOf, released, releasedBefore, priorityOf}
+use Rattle.schedule.proofs.Tests.{by-lt}
+use Rattle.theorems.proofs.Releases.{releasedBefore-le, releasedBefore-one}
 
 module _ (s : Server) where
   pub release-next : (n : ℕ) → releaseOf s (suc n) ≡ s .offset + n * s .period

@@ -7,7 +7,7 @@ use Prim.Native.Nat.{ℕ, _+_, _*_, _≤_, _<_, min}
 use native.Mathlib.Omega.{arith}
 use lib.Dec.{T, eqb, eqb→eq}
 use lib.ListN.{length, getD}
-use Rattle.rules.proofs.Tests.{and-l, and-r, and-i, eq→eqb}
+use Rattle.schedule.proofs.Tests.{and-l, and-r, and-i, eq→eqb}
 use Rattle.table.specs.declared.State.{State}
 use Rattle.table.specs.declared.Kept.{Kept}
 use Rattle.window.specs.Entries.{places, window, slots, noServer, further, slotOf, serverAt, countAt, unfinishedAt, unlinkedAt, nextAt, leftAt}

@@ -7,13 +7,13 @@ use Prim.Native.Nat.{ℕ, suc, _+_, _*_, _-_, _≤_, _<_}
 use native.Mathlib.Omega.{arith}
 use lib.Dec.{T, leb, ltb, leb→le, ltb→lt, le→leb, lt→ltb}
 use lib.ListN.{length}
-use Rattle.rules.specs.Servers.{Server, srv, Box}
-use Rattle.rules.specs.ServerJobs.{ServerJob, released, priorityOf, before, ready, used}
-use Rattle.rules.proofs.Tests.{and-l, and-r, and-i, by-lt, either-way, bool-ext}
-use Rattle.rules.proofs.Counts.{serverJob}
-use Rattle.rules.proofs.Releases.{priority-grows}
-use Rattle.rules.proofs.Ready.{priority, before-is, is-before-lt, is-before-eq, ready-is}
-use Rattle.rules.proofs.InTurn.{no-budget, completed, ready-are-first}
+use Rattle.schedule.specs.Servers.{Server, srv, Box}
+use Rattle.schedule.specs.ServerJobs.{ServerJob, released, priorityOf, before, ready, used}
+use Rattle.schedule.proofs.Tests.{and-l, and-r, and-i, by-lt, either-way, bool-ext}
+use Rattle.theorems.proofs.Counts.{serverJob}
+use Rattle.theorems.proofs.Releases.{priority-grows}
+use Rattle.theorems.proofs.Ready.{priority, before-is, is-before-lt, is-before-eq, ready-is}
+use Rattle.theorems.proofs.InTurn.{no-budget, completed, ready-are-first}
 use Rattle.table.specs.declared.State.{State}
 use Rattle.window.specs.declared.Plan.{Plan}
 use Rattle.window.specs.Entries.{places, lastKey, further, countAt, levelAt, stepAt}

@@ -6,7 +6,7 @@ use Prim.Native.Nat.{ℕ, zero, suc, _+_, _<_}
 use native.Mathlib.Numerals.{add-one}
 use native.Mathlib.Omega.{arith}
 use lib.ListN.{set}
-use Rattle.rules.proofs.Tests.{by-lt}
+use Rattle.schedule.proofs.Tests.{by-lt}
 use Rattle.window.specs.Loops.{someBelow, allBelow, replaced, inTurn}
 
 module _ (p : ℕ → Bool) where

@@ -9,7 +9,7 @@ use native.Mathlib.Omega.{arith}
 use lib.Dec.{T}
 use lib.ListN.{length, getD, length-set}
 use lib.Seq.{getD-set-same, getD-set-other}
-use Rattle.rules.proofs.Tests.{and-l, and-r, and-i, or-l, or-r, or-e, either-way, by-lt}
+use Rattle.schedule.proofs.Tests.{and-l, and-r, and-i, or-l, or-r, or-e, either-way, by-lt}
 use Rattle.table.specs.declared.State.{State}
 use Rattle.window.specs.Entries.{window, serverAt, countAt, firstAt, unfinishedAt, unlinkedAt, worstAt, nextAt, leftAt}
 use Rattle.window.specs.Loops.{someBelow, allBelow, replaced, inTurn}

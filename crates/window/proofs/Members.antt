@@ -6,8 +6,8 @@ use native.Mathlib.Nat.{not-suc-le-zero}
 use native.Mathlib.Omega.{arith}
 use lib.Dec.{T, eqb, eqb→eq, eqb-refl}
 use lib.ListN.{length, getD}
-use Rattle.rules.specs.Lists.{any?, all?}
-use Rattle.rules.proofs.Tests.{and-l, and-r, and-i, or-l, or-r, or-e, either-way}
+use Rattle.schedule.specs.Lists.{any?, all?}
+use Rattle.schedule.proofs.Tests.{and-l, and-r, and-i, or-l, or-r, or-e, either-way}
 
 pub entry-member : (l : List ℕ) (g : ℕ) → g < length l → T (any? (eqb (getD l g 0)) l)
 entry-member [] g h = absurd (not-suc-le-zero h)

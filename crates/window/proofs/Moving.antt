@@ -7,7 +7,7 @@ use native.Mathlib.Nat.{not-suc-le-zero}
 use native.Mathlib.Omega.{arith}
 use lib.ListN.{length, getD, set, length-set}
 use lib.Seq.{getD-set-same, getD-set-other}
-use Rattle.rules.proofs.Tests.{by-lt}
+use Rattle.schedule.proofs.Tests.{by-lt}
 use Rattle.window.specs.Loops.{inTurn}
 use Rattle.window.specs.Finishing.{movedDown}
 

@@ -9,7 +9,7 @@ use native.Mathlib.Omega.{arith}
 use lib.ListN.{length, getD, set, replicate, length-set, length-replicate, getD-replicate}
 use lib.Seq.{getD-set-same, getD-set-other}
 use borrow.Author.Tests.{lt-ltb, le-ltb, eq-eqb, ne-eqb}
-use Rattle.rules.proofs.Tests.{by-lt, either-way}
+use Rattle.schedule.proofs.Tests.{by-lt, either-way}
 use Rattle.window.specs.Entries.{places, window, lastKey, further}
 use Rattle.window.specs.Choosing.{Picks, readyOf, headFrom, bestFrom, pickKey, pickNext, picks}
 

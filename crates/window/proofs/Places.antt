@@ -4,9 +4,9 @@ use Prim.Native.Nat.{ℕ, _+_, _<_}
 use native.Mathlib.Omega.{arith}
 use lib.Dec.{T, ltb, eqb, ltb→lt}
 use lib.ListN.{length, getD}
-use Rattle.rules.specs.Lists.{one?, any?}
-use Rattle.rules.specs.Servers.{srv, Box}
-use Rattle.rules.specs.ServerJobs.{released, releasedBefore}
+use Rattle.schedule.specs.Lists.{one?, any?}
+use Rattle.schedule.specs.Servers.{srv, Box}
+use Rattle.schedule.specs.ServerJobs.{released, releasedBefore}
 use Rattle.table.specs.declared.State.{State}
 use Rattle.window.specs.declared.Plan.{Plan}
 use Rattle.window.specs.Entries.{nextAt, nodesOf}

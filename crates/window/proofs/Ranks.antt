@@ -10,12 +10,12 @@ use native.Mathlib.Omega.{arith}
 use lib.Dec.{T, ltb, eqb, ltb→lt, lt→ltb, eqb→eq}
 use lib.ListN.{length}
 use borrow.Author.Tests.{lt-ltb, le-ltb, eq-eqb, ne-eqb}
-use Rattle.rules.specs.Lists.{one?, count, joined}
-use Rattle.rules.specs.Servers.{Server, srv, Box}
-use Rattle.rules.specs.ServerJobs.{ServerJob, jobsFrom, released, before, ready, readyJobs, rank, used}
-use Rattle.rules.proofs.Tests.{by-lt, either-way, dec, true-T, and-l, and-r, and-i, one-of, one-le-one, eq→eqb}
-use Rattle.rules.proofs.Counts.{serverJob, count-append, count-keep, count-none, count-mono}
-use Rattle.rules.proofs.Ready.{ready-is}
+use Rattle.schedule.specs.Lists.{one?, count, joined}
+use Rattle.schedule.specs.Servers.{Server, srv, Box}
+use Rattle.schedule.specs.ServerJobs.{ServerJob, jobsFrom, released, before, ready, readyJobs, rank, used}
+use Rattle.schedule.proofs.Tests.{by-lt, either-way, dec, true-T, and-l, and-r, and-i, one-of, one-le-one, eq→eqb}
+use Rattle.theorems.proofs.Counts.{serverJob, count-append, count-keep, count-none, count-mono}
+use Rattle.theorems.proofs.Ready.{ready-is}
 use Rattle.table.specs.declared.State.{State}
 use Rattle.window.specs.declared.Plan.{Plan}
 use Rattle.window.specs.Entries.{places}

@@ -7,15 +7,15 @@ use mathlib.Core.Logic.{_⊎_}
 use Prim.Native.Nat.{ℕ, suc, _+_, _*_, _-_, _^_, _≤_, _<_}
 use lib.Dec.{T, ltb, eqb}
 use lib.ListN.{length, getD}
-use Rattle.rules.specs.Limits as Limits
-use Rattle.rules.specs.Lists.{any?, all?}
-use Rattle.rules.specs.Servers.{Server, srv, Box, whole}
-use Rattle.rules.specs.ServerJobs.{releaseOf, released, releasedBefore, priorityOf}
-use Rattle.rules.specs.Walk.{figure}
-use Rattle.rules.proofs.InTurn.{usedBy, completed}
-use Rattle.rules.proofs.Linking.{linkOf}
-use Rattle.rules.proofs.LinkRows.{linkedUpTo}
-use Rattle.rules.proofs.TableBox.{beside}
+use Rattle.schedule.specs.Limits as Limits
+use Rattle.schedule.specs.Lists.{any?, all?}
+use Rattle.schedule.specs.Servers.{Server, srv, Box, whole}
+use Rattle.schedule.specs.ServerJobs.{releaseOf, released, releasedBefore, priorityOf}
+use Rattle.schedule.specs.Walk.{figure}
+use Rattle.theorems.proofs.InTurn.{usedBy, completed}
+use Rattle.theorems.proofs.Linking.{linkOf}
+use Rattle.theorems.proofs.LinkRows.{linkedUpTo}
+use Rattle.theorems.proofs.TableBox.{beside}
 use Rattle.numbers.specs.Masks.{bit}
 use Rattle.table.specs.declared.Pending.{Pending}
 use Rattle.table.specs.declared.State.{State}

@@ -10,14 +10,14 @@ use lib.Dec.{T, leb, ltb, eqb, ltb→lt, lt→ltb, le→leb, eqb→eq}
 use lib.ListN.{length, getD, set, length-set}
 use lib.Seq.{getD-set-same, getD-set-other}
 use borrow.Author.Tests.{eqb-false}
-use Rattle.rules.specs.Limits as Limits
-use Rattle.rules.specs.Lists.{any?}
-use Rattle.rules.specs.Servers.{Server, srv, Box, whole}
-use Rattle.rules.specs.ServerJobs.{releaseOf, released, releasedBefore, priorityOf}
-use Rattle.rules.specs.Walk.{figure}
-use Rattle.rules.proofs.Tests.{and-r, and-i, or-l, or-r, by-lt, either-way, dec, T-true, true-T, eq→eqb}
-use Rattle.rules.proofs.InTurn.{usedBy, used-out, completed, completed-le}
-use Rattle.rules.proofs.Linking.{linkOf, links-old, same-count}
+use Rattle.schedule.specs.Limits as Limits
+use Rattle.schedule.specs.Lists.{any?}
+use Rattle.schedule.specs.Servers.{Server, srv, Box, whole}
+use Rattle.schedule.specs.ServerJobs.{releaseOf, released, releasedBefore, priorityOf}
+use Rattle.schedule.specs.Walk.{figure}
+use Rattle.schedule.proofs.Tests.{and-r, and-i, or-l, or-r, by-lt, either-way, dec, T-true, true-T, eq→eqb}
+use Rattle.theorems.proofs.InTurn.{usedBy, used-out, completed, completed-le}
+use Rattle.theorems.proofs.Linking.{linkOf, links-old, same-count}
 use Rattle.table.specs.declared.State.{State}
 use Rattle.window.specs.declared.Plan.{Plan}
 use Rattle.window.specs.Entries.{places, window, noServer, serverAt, countAt, unfinishedAt, unlinkedAt, nextAt}

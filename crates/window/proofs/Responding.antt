@@ -10,16 +10,16 @@ use native.Mathlib.Omega.{arith}
 use lib.Dec.{leb, ltb}
 use lib.ListN.{length}
 use borrow.Author.Tests.{lt-ltb, le-ltb, le-leb, lt-leb}
-use Rattle.rules.specs.Lists.{largest, numbers, upTo}
-use Rattle.rules.specs.Servers.{Server, srv, Box, whole}
-use Rattle.rules.specs.ServerJobs.{releaseOf, released, releasedBefore, used}
-use Rattle.rules.specs.Links.{links}
-use Rattle.rules.specs.Walk.{responseAt, finishing, figure}
-use Rattle.rules.proofs.Tests.{by-lt}
-use Rattle.rules.proofs.InTurn.{budgetOf, usedBy, used-out, completed, completed-le, is-complete, not-complete}
-use Rattle.rules.proofs.Linking.{linkOf}
-use Rattle.rules.proofs.QuietSpans.{Quiet}
-use Rattle.rules.proofs.QuietWalk.{links-within, whole-ahead, figure-after}
+use Rattle.schedule.specs.Lists.{largest, numbers, upTo}
+use Rattle.schedule.specs.Servers.{Server, srv, Box, whole}
+use Rattle.schedule.specs.ServerJobs.{releaseOf, released, releasedBefore, used}
+use Rattle.schedule.specs.Links.{links}
+use Rattle.schedule.specs.Walk.{responseAt, finishing, figure}
+use Rattle.schedule.proofs.Tests.{by-lt}
+use Rattle.theorems.proofs.InTurn.{budgetOf, usedBy, used-out, completed, completed-le, is-complete, not-complete}
+use Rattle.theorems.proofs.Linking.{linkOf}
+use Rattle.theorems.proofs.QuietSpans.{Quiet}
+use Rattle.theorems.proofs.QuietWalk.{links-within, whole-ahead, figure-after}
 use Rattle.window.specs.Entries.{lastKey}
 use Rattle.window.specs.Finishing.{responseOf}
 use Rattle.window.proofs.Instants.{release-next}

@@ -7,11 +7,11 @@ use lib.Dec.{ltb, eqb}
 use lib.ListN.{length, length-set, length-replicate, getD-replicate}
 use lib.Seq.{getD-set-same, getD-set-other}
 use borrow.Author.Tests.{lt-ltb, le-ltb, eq-eqb, ne-eqb}
-use Rattle.rules.specs.Lists.{one?}
-use Rattle.rules.specs.Servers.{Server}
-use Rattle.rules.specs.ServerJobs.{releaseOf, priorityOf}
-use Rattle.rules.proofs.Tests.{by-lt, either-way, dec}
-use Rattle.rules.proofs.LinkRows.{linkedUpTo, linked-last, linked-cong}
+use Rattle.schedule.specs.Lists.{one?}
+use Rattle.schedule.specs.Servers.{Server}
+use Rattle.schedule.specs.ServerJobs.{releaseOf, priorityOf}
+use Rattle.schedule.proofs.Tests.{by-lt, either-way, dec}
+use Rattle.theorems.proofs.LinkRows.{linkedUpTo, linked-last, linked-cong}
 use Rattle.table.specs.declared.Pending.{Pending}
 use Rattle.table.specs.declared.Server.{Server as Window}
 use Rattle.table.specs.declared.State.{State}

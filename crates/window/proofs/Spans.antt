@@ -8,11 +8,11 @@ use native.Mathlib.Omega.{arith}
 use lib.Dec.{T}
 use lib.ListN.{length, getD}
 use borrow.Author.Tests.{lt-ltb, le-ltb}
-use Rattle.rules.specs.Servers.{Server, Box}
-use Rattle.rules.proofs.Tests.{by-lt}
-use Rattle.rules.proofs.InTurn.{budgetOf, usedBy, running, completed}
-use Rattle.rules.proofs.InTurn as InTurn
-use Rattle.rules.proofs.QuietSpans.{Quiet, quiet-until}
+use Rattle.schedule.specs.Servers.{Server, Box}
+use Rattle.schedule.proofs.Tests.{by-lt}
+use Rattle.theorems.proofs.InTurn.{budgetOf, usedBy, running, completed}
+use Rattle.theorems.proofs.InTurn as InTurn
+use Rattle.theorems.proofs.QuietSpans.{Quiet, quiet-until}
 use Rattle.table.specs.declared.State.{State}
 use Rattle.window.specs.declared.Plan.{Plan}
 use Rattle.window.specs.Entries.{window, lastKey, countAt, leftAt, nodesOf}

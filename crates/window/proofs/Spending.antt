@@ -9,14 +9,14 @@ use native.Mathlib.Omega.{arith}
 use lib.Dec.{T}
 use lib.ListN.{length, getD, length-set}
 use lib.Seq.{getD-set-same, getD-set-other}
-use Rattle.rules.specs.Lists.{one?}
-use Rattle.rules.specs.Servers.{Server, srv, Box, whole}
-use Rattle.rules.specs.ServerJobs.{released}
-use Rattle.rules.specs.Walk.{figure}
-use Rattle.rules.proofs.Tests.{by-lt, either-way, dec, true-T}
-use Rattle.rules.proofs.InTurn.{budgetOf, usedBy, running, completed}
-use Rattle.rules.proofs.Linking.{linkOf}
-use Rattle.rules.proofs.QuietSpans.{grown}
+use Rattle.schedule.specs.Lists.{one?}
+use Rattle.schedule.specs.Servers.{Server, srv, Box, whole}
+use Rattle.schedule.specs.ServerJobs.{released}
+use Rattle.schedule.specs.Walk.{figure}
+use Rattle.schedule.proofs.Tests.{by-lt, either-way, dec, true-T}
+use Rattle.theorems.proofs.InTurn.{budgetOf, usedBy, running, completed}
+use Rattle.theorems.proofs.Linking.{linkOf}
+use Rattle.theorems.proofs.QuietSpans.{grown}
 use Rattle.table.specs.declared.State.{State}
 use Rattle.window.specs.declared.Plan.{Plan}
 use Rattle.window.specs.Entries.{window, countAt, leftAt}

@@ -7,16 +7,16 @@ use Prim.Native.Nat.{ℕ, zero, suc, _+_, _-_, _<_}
 use native.Mathlib.Omega.{arith}
 use lib.ListN.{length}
 use borrow.Author.Tests.{lt-ltb, le-ltb, eq-eqb, ne-eqb}
-use Rattle.rules.specs.Lists.{tab}
-use Rattle.rules.specs.Servers.{Server, srv, Box, whole}
-use Rattle.rules.specs.ServerJobs.{releasedBefore, used}
-use Rattle.rules.specs.Links.{links}
-use Rattle.rules.specs.State.{PendingJob, NodeState, behindOf, pendingJob, nodeState}
-use Rattle.rules.proofs.Tests.{by-lt}
-use Rattle.rules.proofs.InTurn.{usedBy, completed}
-use Rattle.rules.proofs.Linking.{linkOf}
-use Rattle.rules.proofs.StateRows.{rowOf, row-is}
-use Rattle.rules.proofs.Window.{nodeAt}
+use Rattle.schedule.specs.Lists.{tab}
+use Rattle.schedule.specs.Servers.{Server, srv, Box, whole}
+use Rattle.schedule.specs.ServerJobs.{releasedBefore, used}
+use Rattle.schedule.specs.Links.{links}
+use Rattle.schedule.specs.State.{PendingJob, NodeState, behindOf, pendingJob, nodeState}
+use Rattle.schedule.proofs.Tests.{by-lt}
+use Rattle.theorems.proofs.InTurn.{usedBy, completed}
+use Rattle.theorems.proofs.Linking.{linkOf}
+use Rattle.theorems.proofs.StateRows.{rowOf, row-is}
+use Rattle.theorems.proofs.Window.{nodeAt}
 use Rattle.table.specs.declared.Pending.{Pending}
 use Rattle.table.specs.declared.State.{State}
 use Rattle.window.specs.Entries.{slotOf, serverAt, countAt, unfinishedAt, unlinkedAt, leftAt}

@@ -3,14 +3,14 @@
 use mathlib.Core.Path.{_≡_, ap, _∙_}
 use Prim.Native.Nat.{ℕ, suc, _+_, _-_, _≤_, _<_}
 use native.Mathlib.Omega.{arith}
-use Rattle.rules.specs.Lists.{cell}
-use Rattle.rules.specs.Servers.{srv, Box, whole}
-use Rattle.rules.specs.ServerJobs.{released}
-use Rattle.rules.specs.Walk.{figure}
-use Rattle.rules.proofs.InTurn.{usedBy, completed}
-use Rattle.rules.proofs.LinkRows.{linked-grows}
-use Rattle.rules.proofs.Linking.{linkOf}
-use Rattle.rules.proofs.QuietSpans.{Quiet}
+use Rattle.schedule.specs.Lists.{cell}
+use Rattle.schedule.specs.Servers.{srv, Box, whole}
+use Rattle.schedule.specs.ServerJobs.{released}
+use Rattle.schedule.specs.Walk.{figure}
+use Rattle.theorems.proofs.InTurn.{usedBy, completed}
+use Rattle.theorems.proofs.LinkRows.{linked-grows}
+use Rattle.theorems.proofs.Linking.{linkOf}
+use Rattle.theorems.proofs.QuietSpans.{Quiet}
 use Rattle.table.specs.declared.State.{State}
 use Rattle.window.specs.declared.Plan.{Plan}
 use Rattle.window.specs.Choosing.{chosen}

@@ -2,7 +2,7 @@
 use mathlib.Core.Path.{_≡_, refl}
 use Prim.Native.Nat.{ℕ}
 use Prim.Native.String.{String}
-use Rattle.rules.specs.Bytes.{bytes}
+use Rattle.format.specs.Bytes.{bytes}
 use Rattle.rules.specs.Answers.{answerLine}
 use Rattle.writing.specs.Line.{line}
 

@@ -5,9 +5,9 @@ use Prim.Native.Nat.{ℕ, zero, suc, _+_, _/_, _%_, _^_, _≤_, _<_}
 use native.Mathlib.Nat.{pow-suc}
 use native.Mathlib.Omega.{arith}
 use lib.ListN.{length, length-append}
-use Rattle.rules.specs.Bytes.{digitZero, decimal}
-use Rattle.rules.proofs.Tests.{by-lt}
-use Rattle.rules.proofs.Decimal.{decimal-one, decimal-more}
+use Rattle.format.specs.Bytes.{digitZero, decimal}
+use Rattle.schedule.proofs.Tests.{by-lt}
+use Rattle.format.proofs.Decimal.{decimal-one, decimal-more}
 
 pub digits-one : (n : ℕ) → n < 10 → length (decimal n) ≡ 1
 digits-one n h = ap length (decimal-one n h)

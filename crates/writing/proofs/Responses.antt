@@ -3,7 +3,7 @@ use mathlib.Core.Path.{_≡_, refl, sym, ap, _∙_}
 use mathlib.Core.List.{List, [], _∷_, _++_}
 use Prim.Native.Nat.{ℕ, _+_, _≤_, _<_}
 use lib.ListN.{length, take, getD}
-use Rattle.rules.specs.Bytes.{bytes}
+use Rattle.format.specs.Bytes.{bytes}
 use Rattle.rules.specs.Answers.{answerLine, responseLines}
 use Rattle.writing.specs.Line.{line}
 use Rattle.writing.proofs.Texts.{texts, one-more, fits}

@@ -3,8 +3,8 @@ use mathlib.Core.Path.{_≡_, refl, sym, ap, _∙_}
 use mathlib.Core.List.{List, [], _∷_, _++_, map, append-assoc}
 use Prim.Native.Nat.{ℕ, _+_, _≤_, _<_}
 use lib.ListN.{length, take, getD}
-use Rattle.rules.specs.Bytes.{bytes, comma, lineFeed}
-use Rattle.rules.specs.Walk.{Running}
+use Rattle.format.specs.Bytes.{bytes, comma, lineFeed}
+use Rattle.schedule.specs.Walk.{Running}
 use Rattle.rules.specs.Answers.{rowText}
 use Rattle.writing.specs.declared.row.Run.{Run}
 use Rattle.writing.specs.Line.{pair}

@@ -3,8 +3,8 @@ use mathlib.Core.Path.{_≡_}
 use mathlib.Core.List.{List}
 use Prim.Native.Nat.{ℕ, _+_, _*_, _≤_}
 use lib.ListN.{length}
-use Rattle.rules.specs.Limits as Limits
-use Rattle.rules.specs.Bytes.{bytes}
+use Rattle.schedule.specs.Limits as Limits
+use Rattle.format.specs.Bytes.{bytes}
 
 -- the length told is the text's, and at most so much
 pub record Long (text : List ℕ) (most told : ℕ) : Type 0 where

@@ -1,7 +1,7 @@
 -- A line over any name: `answerLine` of the rules is the one whose name is quoted.
 use mathlib.Core.List.{List, [], _∷_, _++_}
 use Prim.Native.Nat.{ℕ}
-use Rattle.rules.specs.Bytes.{equals, comma, lineFeed, decimal}
+use Rattle.format.specs.Bytes.{equals, comma, lineFeed, decimal}
 
 -- a number and the byte that ends it
 abbrev pub ended : ℕ → ℕ → List ℕ

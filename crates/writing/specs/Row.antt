@@ -1,7 +1,7 @@
 -- The code's row as the rules' running server jobs.
 use mathlib.Core.List.{List, map}
 use lib.ListN.{take}
-use Rattle.rules.specs.Walk.{Running}
+use Rattle.schedule.specs.Walk.{Running}
 use Rattle.writing.specs.declared.row.Run.{Run}
 use Rattle.writing.specs.declared.row.Row.{Row}
 

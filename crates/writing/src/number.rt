@@ -1,7 +1,7 @@
 // A number in decimal: how many digits it has, and its digits written.
 ghost use Prim.Native.Nat.{_≤_};
 ghost use lib.ListN.{length};
-ghost use Rattle.rules.specs.Bytes.{decimal};
+ghost use Rattle.format.specs.Bytes.{decimal};
 ghost use Rattle.writing.specs.Lengths.{Long, mostDigits};
 ghost use Rattle.writing.specs.Written.{Written};
 

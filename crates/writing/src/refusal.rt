@@ -1,11 +1,11 @@
 // What the program prints of a refusal: `answer=` with the number, and `line=`.
 use crate::line::line_length;
 use crate::line::put_line;
-use rules::Refusal;
+use format::Refusal;
 ghost use mathlib.Core.Path.{_≡_};
 ghost use Prim.Native.Nat.{_≤_};
 ghost use lib.ListN.{length};
-ghost use Rattle.rules.specs.Refusals.{numberOf, lineOf};
+ghost use Rattle.format.specs.Refusals.{numberOf, lineOf};
 ghost use Rattle.rules.specs.Answers.{refuses, printed};
 ghost use Rattle.writing.specs.Lengths.{Long, longestRefusal};
 ghost use Rattle.writing.specs.Written.{Written};

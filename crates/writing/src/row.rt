@@ -6,7 +6,7 @@ use table::Table;
 ghost use mathlib.Core.List.{[], _∷_};
 ghost use Prim.Native.Nat.{_≤_};
 ghost use lib.ListN.{length};
-ghost use Rattle.rules.specs.Limits as Limits;
+ghost use Rattle.schedule.specs.Limits as Limits;
 ghost use Rattle.rules.specs.Answers.{rowText};
 ghost use Rattle.writing.specs.Lengths.{Long, longestRun, longestRow};
 ghost use Rattle.writing.specs.Written.{Written};

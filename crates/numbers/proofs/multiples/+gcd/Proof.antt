@@ -4,7 +4,7 @@ use Prim.Native.Nat.{ℕ, _<_, _%_}
 use native.Mathlib.Nat.{pos-of-ne-zero, mod-lt}
 use borrow.Fn.Kinds.{In}
 use borrow.Fn.PlainCycle.{Measures, is, falls, and}
-use Rattle.rules.specs.Table as Rules
+use Rattle.schedule.specs.Table as Rules
 use Rattle.numbers.proofs.Euclid.{gcd-zero, gcd-step}
 use Rattle.numbers.proofs.multiples.gcd.Reads as gcd
 use Rattle.numbers.proofs.multiples.gcd.Kinds as gcd-kinds

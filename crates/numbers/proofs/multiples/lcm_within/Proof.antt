@@ -5,7 +5,7 @@ use native.Mathlib.Nat.{div-zero, zero-mul, div-le-self, lt-of-le-of-lt}
 use native.Mathlib.Omega.{arith}
 use borrow.Author.Needs.{needs}
 use borrow.Author.Tests.{le-leb, lt-leb}
-use Rattle.rules.specs.Table as Rules
+use Rattle.schedule.specs.Table as Rules
 use Rattle.numbers.proofs.Products.{product-fits}
 use Rattle.numbers.proofs.multiples.lcm_within.Statement.{statement}
 use Rattle.numbers.proofs.multiples.lcm_within.Tie as tie

@@ -4,7 +4,7 @@ use Prim.Native.Nat.{_+_, _-_, _≤_, _<_}
 use native.Mathlib.Numerals.{add-one}
 use native.Mathlib.Omega.{arith}
 use borrow.Author.Needs.{needs}
-use Rattle.rules.specs.Limits as Limits
+use Rattle.schedule.specs.Limits as Limits
 use Rattle.window.specs.Loops.{replaced}
 use Rattle.planning.specs.Graphs.{graphTo}
 use Rattle.planning.specs.Offsets.{offsetsTo}

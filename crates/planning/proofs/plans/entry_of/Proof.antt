@@ -6,7 +6,7 @@ use Prim.Native.Nat.{_+_, _-_}
 use native.Mathlib.Omega.{arith}
 use borrow.Author.Needs.{needs}
 use borrow.Author.Tests.{eq-eqb, ne-eqb}
-use Rattle.rules.specs.Limits as Limits
+use Rattle.schedule.specs.Limits as Limits
 use Rattle.planning.specs.Narrowing.{most8}
 use Rattle.planning.specs.Graphs.{firstFor, numberIn, lastAt}
 use Rattle.planning.proofs.plans.entry_of.Statement.{statement}

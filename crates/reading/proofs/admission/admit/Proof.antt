@@ -4,7 +4,8 @@ use Prim.Native.Nat.{_-_}
 use denote.Ref.{now}
 use borrow.Author.Needs.{needs}
 use Rattle.rules.proofs.ReadWellFormed.{read-formed}
-use Rattle.rules.specs.Reading.{readOf, admissionOf}
+use Rattle.format.specs.Reading.{readOf}
+use Rattle.rules.specs.Admission.{admissionOf}
 use Rattle.reading.specs.Admission.{admittedMemory}
 use Rattle.reading.specs.Memory.{memoryOf}
 use Rattle.reading.specs.Outcomes.{placeOf, endOf}

@@ -5,8 +5,8 @@ use Prim.Native.Nat.{ℕ, _+_, _-_, _*_}
 use native.Mathlib.Omega.{arith}
 use lib.ListN.{getD}
 use borrow.Author.Needs.{needs}
-use Rattle.rules.specs.Lists.{sum, tab}
-use Rattle.rules.specs.Table as Rules
+use Rattle.schedule.specs.Lists.{sum, tab}
+use Rattle.schedule.specs.Table as Rules
 use Rattle.table.specs.Fresh.{noNode}
 use Rattle.table.specs.declared.Node.{Node}
 use Rattle.reading.specs.Admission.{roomAfter, graphLoad}

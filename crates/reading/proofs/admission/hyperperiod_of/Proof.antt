@@ -4,9 +4,9 @@ use Prim.Native.Nat.{ℕ, _+_, _-_}
 use native.Mathlib.Omega.{arith}
 use lib.ListN.{getD}
 use borrow.Author.Needs.{needs}
-use Rattle.rules.specs.Limits as Limits
-use Rattle.rules.specs.Lists.{tab}
-use Rattle.rules.specs.Table as Rules
+use Rattle.schedule.specs.Limits as Limits
+use Rattle.schedule.specs.Lists.{tab}
+use Rattle.schedule.specs.Table as Rules
 use Rattle.numbers.specs.Multiples.{multipleWithin}
 use Rattle.table.specs.Fresh.{noGraph}
 use Rattle.table.specs.declared.Graph.{Graph}

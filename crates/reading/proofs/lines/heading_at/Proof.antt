@@ -5,7 +5,7 @@ use Prim.Native.Nat.{ℕ, _-_, _≤_}
 use lib.ListN.{length, take, drop}
 use denote.Ref.{now}
 use borrow.Author.Needs.{needs}
-use Rattle.rules.specs.Spelling.{text}
+use Rattle.format.specs.Spelling.{text}
 use Rattle.table.specs.Keys.{nameLength}
 use Rattle.table.specs.declared.Key.{Key}
 use Rattle.reading.specs.Positions.{foundOf}

@@ -4,8 +4,8 @@ use Prim.Native.Nat.{_-_, _<_, _≤_}
 use lib.Dec.{leb}
 use borrow.Author.Needs.{needs}
 use borrow.Author.Tests.{le-leb, lt-leb}
-use Rattle.rules.specs.Keys.{keyAt}
-use Rattle.rules.specs.WellFormed.{within}
+use Rattle.format.specs.Keys.{keyAt}
+use Rattle.schedule.specs.WellFormed.{within}
 use Rattle.table.specs.declared.Key.{Key}
 use Rattle.reading.proofs.lines.is_within.Statement.{statement}
 use Rattle.reading.proofs.lines.is_within.Tie as tie

@@ -5,7 +5,7 @@ use lib.ListN.{drop}
 use denote.Ref.{now}
 use borrow.Author.Needs.{needs}
 use borrow.Author.Tests.{eq-eqb, ne-eqb}
-use Rattle.rules.specs.Keys as Keys
+use Rattle.format.specs.Keys as Keys
 use Rattle.reading.specs.Positions.{foundOf}
 use Rattle.reading.proofs.LineLaws.{headless}
 use Rattle.reading.proofs.lines.line_from.Statement.{statement}

@@ -4,8 +4,8 @@ use Prim.Native.Nat.{_-_}
 use lib.ListN.{drop}
 use denote.Ref.{now}
 use borrow.Author.Needs.{needs}
-use Rattle.rules.specs.Spelling.{list}
-use Rattle.rules.specs.WellFormed.{orderly}
+use Rattle.format.specs.Spelling.{list}
+use Rattle.schedule.specs.WellFormed.{orderly}
 use Rattle.reading.specs.Lines.{judgeBy, same, always, closed}
 use Rattle.reading.specs.Masks.{listing, listedOf}
 use Rattle.reading.specs.declared.lists.Listing.{Listing}

@@ -5,9 +5,9 @@ use Prim.Native.Nat.{ℕ, _-_}
 use lib.ListN.{drop}
 use denote.Ref.{now}
 use borrow.Author.Needs.{needs}
-use Rattle.rules.specs.Keys.{keyAt}
-use Rattle.rules.specs.Spelling.{number}
-use Rattle.rules.specs.WellFormed.{within}
+use Rattle.format.specs.Keys.{keyAt}
+use Rattle.format.specs.Spelling.{number}
+use Rattle.schedule.specs.WellFormed.{within}
 use Rattle.reading.specs.Lines.{judgeBy, same, always, closed}
 use Rattle.reading.specs.Positions.{kept, scannedOf}
 use Rattle.reading.proofs.Images.{image-read, image-wrong}

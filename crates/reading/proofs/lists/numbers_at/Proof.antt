@@ -6,8 +6,8 @@ use native.Mathlib.Omega.{arith}
 use lib.ListN.{length, drop, length-drop}
 use denote.Ref.{now}
 use borrow.Author.Needs.{needs}
-use Rattle.rules.specs.Bytes.{comma}
-use Rattle.rules.specs.Spelling.{read, number, numbers}
+use Rattle.format.specs.Bytes.{comma}
+use Rattle.format.specs.Spelling.{read, number, numbers}
 use Rattle.reading.specs.Masks.{entered, entries}
 use Rattle.reading.specs.Positions.{mapScan, capped, scannedOf}
 use Rattle.reading.specs.declared.lists.Listing.{Listing}

@@ -5,7 +5,7 @@ use Prim.Native.Nat.{_-_}
 use native.Mathlib.Omega.{arith}
 use denote.Ref.{now}
 use borrow.Author.Needs.{needs}
-use Rattle.rules.specs.Spelling.{text}
+use Rattle.format.specs.Spelling.{text}
 use Rattle.reading.proofs.Scanners.{text-past, text-same, text-other}
 use Rattle.reading.proofs.scanning.byte_at.Statement.{statement}
 use Rattle.reading.proofs.scanning.byte_at.Tie as tie

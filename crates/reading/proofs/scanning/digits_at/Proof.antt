@@ -5,7 +5,7 @@ use native.Mathlib.Omega.{arith}
 use lib.ListN.{length, drop}
 use denote.Ref.{now}
 use borrow.Author.Needs.{needs}
-use Rattle.rules.specs.Spelling.{digits}
+use Rattle.format.specs.Spelling.{digits}
 use Rattle.reading.specs.Positions.{far, capped}
 use Rattle.reading.proofs.Scanners.{digit-value, more-digits, no-digit, digits-past}
 use Rattle.reading.proofs.scanning.digits_at.Statement.{statement}

@@ -1,7 +1,7 @@
 -- `is_digit` meets its contract.
 use Prim.Native.Nat.{_-_}
 use borrow.Author.Tests.{le-leb, lt-leb}
-use Rattle.rules.specs.Bytes.{digitZero}
+use Rattle.format.specs.Bytes.{digitZero}
 use Rattle.reading.proofs.scanning.is_digit.Statement.{statement}
 use Rattle.reading.proofs.scanning.is_digit.Tie as tie
 

@@ -5,7 +5,7 @@ use native.Mathlib.Omega.{arith}
 use lib.ListN.{take, drop}
 use denote.Ref.{now}
 use borrow.Author.Needs.{needs}
-use Rattle.rules.specs.Spelling.{text}
+use Rattle.format.specs.Spelling.{text}
 use Rattle.reading.proofs.Scanners.{rest-past, rest-other, rest-same, rest-found}
 use Rattle.reading.proofs.scanning.text_at.Statement.{statement}
 use Rattle.reading.proofs.scanning.text_at.Tie as tie

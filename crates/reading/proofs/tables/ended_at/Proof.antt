@@ -3,7 +3,7 @@ use mathlib.Core.Path.{sym, _∙_, ap}
 use Prim.Native.Nat.{_-_}
 use denote.Ref.{now}
 use borrow.Author.Needs.{needs}
-use Rattle.rules.specs.Reading.{_and-then_, ended, table}
+use Rattle.format.specs.Reading.{_and-then_, ended, table}
 use Rattle.reading.specs.Outcomes.{endOf, taken}
 use Rattle.reading.specs.declared.tables.End.{End}
 use Rattle.reading.proofs.Graphs.{ended-more, ended-none}

@@ -4,11 +4,11 @@ use Prim.Native.Nat.{_-_}
 use native.Mathlib.Omega.{arith}
 use denote.Ref.{now}
 use borrow.Author.Needs.{needs}
-use Rattle.rules.proofs.Formed.{within-limits}
+use Rattle.theorems.proofs.Formed.{within-limits}
 use Rattle.rules.proofs.Outcomes.{told}
-use Rattle.rules.specs.Keys as Keys
-use Rattle.rules.specs.Keys.{keys}
-use Rattle.rules.specs.Limits as Limits
+use Rattle.format.specs.Keys as Keys
+use Rattle.format.specs.Keys.{keys}
+use Rattle.schedule.specs.Limits as Limits
 use Rattle.reading.specs.Outcomes.{placeOf, threeReadOf}
 use Rattle.reading.proofs.Graphs.{graph-three}
 use Rattle.reading.proofs.Runs.{three-holds}

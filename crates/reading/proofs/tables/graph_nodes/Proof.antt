@@ -6,7 +6,7 @@ use denote.Ref.{now}
 use borrow.Author.Needs.{needs}
 use Rattle.rules.proofs.Outcomes.{told}
 use Rattle.rules.proofs.ReadWellFormed.{nodes-holds}
-use Rattle.rules.specs.Reading.{node, nodesFrom}
+use Rattle.format.specs.Reading.{node, nodesFrom}
 use Rattle.reading.specs.Memory.{withGraph}
 use Rattle.reading.specs.Outcomes.{mapOutcome, placeOf, endOf, Taken, taken, tableReadOf}
 use Rattle.reading.proofs.Graphs.{nodes-over, nodes-refused, nodes-done, ended-graph}

@@ -5,11 +5,11 @@ use native.Mathlib.Omega.{arith}
 use lib.ListN.{length}
 use denote.Ref.{now}
 use borrow.Author.Needs.{needs}
-use Rattle.rules.proofs.Formed.{within-limits, graph-formed}
+use Rattle.theorems.proofs.Formed.{within-limits, graph-formed}
 use Rattle.rules.proofs.Outcomes.{told}
 use Rattle.rules.proofs.ReadWellFormed.{graph-holds}
-use Rattle.rules.specs.Limits as Limits
-use Rattle.rules.specs.Reading.{graph, graphsFrom, table}
+use Rattle.schedule.specs.Limits as Limits
+use Rattle.format.specs.Reading.{graph, graphsFrom, table}
 use Rattle.table.specs.declared.Table.{Table as Memory}
 use Rattle.reading.specs.Memory.{withGraph, withGraphs}
 use Rattle.reading.specs.Outcomes.{mapOutcome, placeOf, endOf}

@@ -8,7 +8,7 @@ use denote.Ref.{now}
 use borrow.Author.Needs.{needs}
 use Rattle.rules.proofs.Outcomes.{told}
 use Rattle.rules.proofs.ReadWellFormed.{node-holds}
-use Rattle.rules.specs.Reading.{node, nodesFrom}
+use Rattle.format.specs.Reading.{node, nodesFrom}
 use Rattle.table.specs.declared.Node.{Node as Row}
 use Rattle.reading.specs.Memory.{codedNode}
 use Rattle.reading.specs.Outcomes.{mapOutcome, placeOf, nodeReadOf, taken}

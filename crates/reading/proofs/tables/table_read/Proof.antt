@@ -6,12 +6,12 @@ use lib.ListN.{length}
 use denote.Ref.{now}
 use borrow.Author.Needs.{needs}
 use borrow.Author.Tests.{le-leb, lt-leb}
-use Rattle.rules.proofs.Formed.{within-limits}
+use Rattle.theorems.proofs.Formed.{within-limits}
 use Rattle.rules.proofs.Outcomes.{told}
-use Rattle.rules.specs.Keys as Keys
-use Rattle.rules.specs.Keys.{keys}
-use Rattle.rules.specs.Limits as Limits
-use Rattle.rules.specs.Reading.{Place, Outcome, _and-then_, graphsFrom, ended, readOf}
+use Rattle.format.specs.Keys as Keys
+use Rattle.format.specs.Keys.{keys}
+use Rattle.schedule.specs.Limits as Limits
+use Rattle.format.specs.Reading.{Place, Outcome, _and-then_, graphsFrom, ended, readOf}
 use Rattle.table.specs.declared.Table.{Table as Memory}
 use Rattle.reading.specs.Memory.{withGraphs}
 use Rattle.reading.specs.Outcomes.{mapOutcome, placeOf, threeReadOf}

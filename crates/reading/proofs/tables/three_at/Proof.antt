@@ -5,7 +5,7 @@ use native.Mathlib.Omega.{arith}
 use denote.Ref.{now}
 use borrow.Author.Needs.{needs}
 use Rattle.rules.proofs.Outcomes.{told}
-use Rattle.rules.specs.Reading.{done}
+use Rattle.format.specs.Reading.{done}
 use Rattle.reading.specs.Outcomes.{placeOf, codedLine, lineReadOf, threeLines}
 use Rattle.reading.proofs.Runs.{coded-holds}
 use Rattle.reading.proofs.tables.three_at.Statement.{statement}

@@ -4,7 +4,7 @@ use Prim.Native.Nat.{_-_, _≤_}
 use native.Mathlib.Nat.{le-antisymm}
 use native.Mathlib.Omega.{arith}
 use borrow.Author.Needs.{needs}
-use Rattle.rules.specs.Limits as Limits
+use Rattle.schedule.specs.Limits as Limits
 use Rattle.window.specs.Loops.{replaced}
 use Rattle.rows.specs.Showing.{blank, rowTo}
 use Rattle.rows.proofs.Entries.{chosen-row, entry-is, row-more, count-few}

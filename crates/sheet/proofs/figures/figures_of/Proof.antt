@@ -4,7 +4,7 @@ use Prim.Native.Nat.{_-_, _≤_}
 use native.Mathlib.Nat.{le-antisymm}
 use lib.ListN.{replicate}
 use borrow.Author.Needs.{needs}
-use Rattle.rules.specs.Limits as Limits
+use Rattle.schedule.specs.Limits as Limits
 use Rattle.window.specs.Loops.{replaced}
 use Rattle.window.proofs.LoopLaws.{replaced-more}
 use Rattle.sheet.specs.Figures.{worstAt, figureOf}

@@ -1,7 +1,7 @@
 -- `report` meets its contract: what was read passed or was refused, and so are the bytes.
 use mathlib.Core.Path.{sym, ap, _∙_}
 use Rattle.rules.specs.Answers.{Call, callOf}
-use Rattle.rules.specs.Refusals.{answerNumber}
+use Rattle.rules.specs.AnswerNumbers.{answerNumber}
 use Rattle.rules.proofs.TrueReports.{an-answered-report-is-true}
 use Rattle.sheet.proofs.CallLaws.{refused-call}
 use Rattle.sheet.proofs.Admissions.{passes, is-refused}

@@ -4,9 +4,9 @@ use Prim.Native.Nat.{_≤_}
 use native.Mathlib.Omega.{arith}
 use lib.ListN.{length, List·getD-eq-default}
 use borrow.Author.Needs.{needs}
-use Rattle.rules.specs.Keys.{keys, noKey}
+use Rattle.format.specs.Keys.{keys, noKey}
 use Rattle.table.specs.Keys.{codedKey}
-use Rattle.rules.proofs.Cells.{getD-map}
+use Rattle.schedule.proofs.Cells.{getD-map}
 use Rattle.table.proofs.Table.key.Statement.{statement}
 use Rattle.table.proofs.Table.key.Tie as tie
 

@@ -2,7 +2,7 @@
 use mathlib.Core.List.{[], _∷_}
 use native.Mathlib.Omega.{arith}
 use lib.ListN.{length-append}
-use Rattle.rules.specs.Bytes.{equals, lineFeed, decimal}
+use Rattle.format.specs.Bytes.{equals, lineFeed, decimal}
 use Rattle.writing.specs.Line.{ended}
 use borrow.Author.Needs.{needs}
 use Rattle.writing.proofs.line.line_length.Statement.{statement}

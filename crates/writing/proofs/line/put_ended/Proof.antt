@@ -2,7 +2,7 @@
 use mathlib.Core.List.{[], _∷_}
 use native.Mathlib.Omega.{arith}
 use lib.ListN.{length-append}
-use Rattle.rules.specs.Bytes.{decimal}
+use Rattle.format.specs.Bytes.{decimal}
 use Rattle.writing.proofs.Writing.{then-byte}
 use borrow.Author.Needs.{needs}
 use Rattle.writing.proofs.line.put_ended.Statement.{statement}

@@ -4,7 +4,7 @@ use Prim.Native.Nat.{ℕ, _+_, _≤_}
 use native.Mathlib.Omega.{arith}
 use lib.ListN.{length, set, length-append}
 use lib.Seq.{append-snoc}
-use Rattle.rules.specs.Bytes.{equals, lineFeed}
+use Rattle.format.specs.Bytes.{equals, lineFeed}
 use Rattle.writing.specs.Line.{ended, line}
 use Rattle.writing.specs.Written.{Written}
 use Rattle.writing.proofs.Writing.{named, then-byte, begins, room, both, keeps}

@@ -2,7 +2,7 @@
 use Prim.Native.Nat.{_+_, _≤_}
 use native.Mathlib.Omega.{arith}
 use lib.ListN.{length}
-use Rattle.rules.specs.Bytes.{comma}
+use Rattle.format.specs.Bytes.{comma}
 use Rattle.writing.specs.Line.{ended}
 use Rattle.writing.proofs.Writing.{apart, begins, room, both}
 use borrow.Author.Needs.{needs}

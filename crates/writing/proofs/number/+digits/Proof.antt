@@ -5,7 +5,7 @@ use native.Mathlib.Omega.{arith}
 use lib.ListN.{length}
 use borrow.Fn.Kinds.{In}
 use borrow.Fn.PlainCycle.{Measures, is, falls, and}
-use Rattle.rules.specs.Bytes.{decimal}
+use Rattle.format.specs.Bytes.{decimal}
 use Rattle.writing.proofs.Counting.{digits-one, digits-more, digits-most}
 use Rattle.writing.proofs.number.digits.Reads as digits
 use Rattle.writing.proofs.number.digits.Kinds as digits-kinds

@@ -4,8 +4,8 @@ use Prim.Native.Nat.{ℕ, _+_, _%_, _<_}
 use native.Mathlib.Omega.{arith}
 use lib.ListN.{length-set}
 use borrow.Author.Needs.{needs}
-use Rattle.rules.specs.Bytes.{digitZero}
-use Rattle.rules.proofs.Decimal.{decimal-one, decimal-more}
+use Rattle.format.specs.Bytes.{digitZero}
+use Rattle.format.proofs.Decimal.{decimal-one, decimal-more}
 use Rattle.writing.proofs.Counting.{digits-one, digits-more}
 use Rattle.writing.proofs.Writing.{nothing, named, then-byte}
 use borrow.Fn.Kinds.{In}

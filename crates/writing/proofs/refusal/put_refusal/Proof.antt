@@ -4,8 +4,8 @@ use mathlib.Core.List.{List}
 use Prim.Native.Nat.{ℕ, _+_, _≤_}
 use native.Mathlib.Omega.{arith}
 use lib.ListN.{length}
-use Rattle.rules.specs.Bytes.{bytes}
-use Rattle.rules.specs.Refusals.{numberOf, lineOf}
+use Rattle.format.specs.Bytes.{bytes}
+use Rattle.format.specs.Refusals.{numberOf, lineOf}
 use Rattle.rules.specs.Answers.{answerLine, printed}
 use Rattle.writing.specs.Line.{line}
 use Rattle.writing.proofs.Writing.{named, apart, begins, room, both}

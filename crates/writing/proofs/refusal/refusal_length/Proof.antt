@@ -3,8 +3,8 @@ use mathlib.Core.Path.{ap, _∙_}
 use Prim.Native.Nat.{ℕ}
 use native.Mathlib.Omega.{arith}
 use lib.ListN.{length, length-append}
-use Rattle.rules.specs.Bytes.{bytes}
-use Rattle.rules.specs.Refusals.{numberOf, lineOf}
+use Rattle.format.specs.Bytes.{bytes}
+use Rattle.format.specs.Refusals.{numberOf, lineOf}
 use Rattle.rules.specs.Answers.{answerLine, printed}
 use Rattle.writing.specs.Line.{line}
 use borrow.Author.Needs.{needs}

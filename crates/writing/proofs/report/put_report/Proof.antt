@@ -4,7 +4,7 @@ use mathlib.Core.List.{List, _++_, append-assoc}
 use Prim.Native.Nat.{ℕ, _+_, _≤_}
 use native.Mathlib.Omega.{arith}
 use lib.ListN.{length, take, length-append}
-use Rattle.rules.specs.Bytes.{bytes}
+use Rattle.format.specs.Bytes.{bytes}
 use Rattle.rules.specs.Answers.{answerLine, responseLines, reportText}
 use Rattle.writing.specs.Line.{line}
 use Rattle.writing.proofs.Writing.{named, begins, room, both}

@@ -2,7 +2,7 @@
 use mathlib.Core.List.{_++_}
 use native.Mathlib.Omega.{arith}
 use lib.ListN.{take, length-append}
-use Rattle.rules.specs.Bytes.{bytes}
+use Rattle.format.specs.Bytes.{bytes}
 use Rattle.rules.specs.Answers.{answerLine, responseLines, reportText}
 use Rattle.writing.specs.Line.{line}
 use borrow.Author.Needs.{needs}

@@ -3,8 +3,8 @@ use mathlib.Core.Path.{_≡_, refl, ap, _∙_}
 use Prim.Native.Nat.{ℕ, _*_, _-_, _≤_, _<_}
 use native.Mathlib.Omega.{arith}
 use lib.ListN.{length, take, getD, length-append}
-use Rattle.rules.specs.Limits as Limits
-use Rattle.rules.specs.Bytes.{bytes}
+use Rattle.schedule.specs.Limits as Limits
+use Rattle.format.specs.Bytes.{bytes}
 use Rattle.rules.specs.Answers.{responseLines}
 use Rattle.writing.specs.Lengths.{longestLine}
 use Rattle.writing.proofs.Responses.{response, response-more}

@@ -5,7 +5,7 @@ use Prim.Native.Nat.{ℕ, _+_, _-_, _≤_, _<_}
 use native.Mathlib.Omega.{arith}
 use lib.ListN.{length, take, getD, length-map}
 use borrow.Author.Needs.{needs}
-use Rattle.rules.specs.Limits as Limits
+use Rattle.schedule.specs.Limits as Limits
 use Rattle.rules.specs.Answers.{rowText}
 use Rattle.writing.specs.declared.row.Row.{Row}
 use Rattle.writing.specs.Written.{Written}

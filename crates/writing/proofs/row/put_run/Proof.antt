@@ -4,7 +4,7 @@ use mathlib.Core.List.{List, _++_}
 use Prim.Native.Nat.{ℕ, _+_, _≤_}
 use native.Mathlib.Omega.{arith}
 use lib.ListN.{length, length-append}
-use Rattle.rules.specs.Bytes.{bytes, comma, lineFeed}
+use Rattle.format.specs.Bytes.{bytes, comma, lineFeed}
 use Rattle.writing.specs.Line.{pair}
 use Rattle.writing.specs.Row.{runningOf}
 use Rattle.writing.proofs.Writing.{named, begins, room, both}

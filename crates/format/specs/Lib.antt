@@ -1,0 +1,5 @@
+pub mod Bytes
+pub mod Refusals
+pub mod Keys
+pub mod Spelling
+pub mod Reading

@@ -1,0 +1,106 @@
+-- Reading a table: the lines one after another, each judged first for its spelling (2), then for its limits (3) or the predecessor rules
+-- (4).
+use mathlib.Core.Bool.{Bool, cond}
+use mathlib.Core.List.{List, [], _∷_}
+use Prim.Native.Nat.{ℕ, zero, suc, _+_, _-_}
+use lib.Dec.{leb}
+use lib.ListN.{length}
+use Rattle.format.specs.declared.Refusal.{Refusal}
+use Rattle.format.specs.declared.Refusal.the-variants.{TooLong, Misspelled, OutsideLimits, AgainstPredecessorRules}
+use Rattle.schedule.specs.Limits as Limits
+use Rattle.format.specs.Keys as Keys
+use Rattle.format.specs.Keys.{keyAt}
+use Rattle.format.specs.Spelling.{Scan, read, wrong, number, list, line}
+use Rattle.schedule.specs.Table.{Node, Graph, Table}
+use Rattle.schedule.specs.WellFormed.{within, orderly, allFollowed}
+
+-- where reading stands: the number of the next line, and the bytes from there on
+pub record Place : Type 0 where
+  pub line : ℕ
+  pub bytes : List ℕ
+
+-- what reading comes to: a refusal; or a value, and the place after it
+pub data Outcome (A : Type 0) : Type 0 where
+  refused : Refusal → Outcome A
+  done : A → Place → Outcome A
+
+module _ {A B : Type 0} where
+  infixl 20 _and-then_
+  abbrev pub _and-then_ : Outcome A → (A → Place → Outcome B) → Outcome B
+  (refused r) and-then f = refused r
+  (done a p) and-then f = f a p
+
+module _ {A : Type 0} where
+  -- a scanned line l: refused as 2 where it is spelled wrong, with `unfair` where its value is not fair; else its value
+  abbrev pub judged : (ℕ → Refusal) → (A → Bool) → ℕ → Scan A → Outcome A
+  judged unfair fair l (wrong rest) = refused (Misspelled l)
+  judged unfair fair l (read v rest) = cond (fair v) (done v (record { line = suc l; bytes = rest })) (refused (unfair l))
+
+-- the line of key k, whose value is a number within the key's limits
+unfoldable pub numberLine : ℕ → Place → Outcome ℕ
+numberLine k p = judged OutsideLimits (within (keyAt k .range)) (p .line) (line (keyAt k .name) number (p .bytes))
+
+-- the `after` line of node number own
+unfoldable pub afterLine : ℕ → Place → Outcome (List ℕ)
+afterLine own p = judged AgainstPredecessorRules (orderly own) (p .line) (line (keyAt Keys.after .name) list (p .bytes))
+
+-- node number own of its graph
+unfoldable pub node : ℕ → Place → Outcome Node
+node own p =
+    numberLine Keys.budget p and-then λ budget p.
+    numberLine Keys.level p and-then λ level p.
+    afterLine own p and-then λ after p.
+    done (record { budget = budget; level = level; after = after }) p
+
+-- the nodes from number own on, as many as are left
+unfoldable pub nodesFrom : ℕ → ℕ → Place → Outcome (List Node)
+nodesFrom own zero p = done [] p
+nodesFrom own (suc left) p =
+    node own p and-then λ x p.
+    nodesFrom (suc own) left p and-then λ xs p.
+    done (x ∷ xs) p
+
+-- a graph's n nodes, once its three numbers are read, the last of them on line l; the graphs before it have `total` nodes. The missing
+-- successor is judged after the graph's last line passes, and is charged to that line
+unfoldable pub graphNodes : ℕ → ℕ → ℕ → ℕ → ℕ → Place → Outcome Graph
+graphNodes total period offset n l p =
+    let rest : Outcome Graph =
+    nodesFrom 1 n p and-then λ xs q.
+    cond (allFollowed xs)
+    (done (record { period = period; offset = offset; nodes = xs }) q)
+    (refused (AgainstPredecessorRules (q .line - 1))) in
+    cond (leb (total + n) (Limits.allNodes .to)) rest (refused (OutsideLimits l))
+
+unfoldable pub graph : ℕ → Place → Outcome Graph
+graph total p =
+    numberLine Keys.period p and-then λ period p.
+    numberLine Keys.offset p and-then λ offset p.
+    numberLine Keys.nodes p and-then λ n q.
+    graphNodes total period offset n (p .line) q
+
+unfoldable pub graphsFrom : ℕ → ℕ → Place → Outcome (List Graph)
+graphsFrom total zero p = done [] p
+graphsFrom total (suc left) p =
+    graph total p and-then λ G p.
+    graphsFrom (total + length (G .nodes)) left p and-then λ Gs p.
+    done (G ∷ Gs) p
+
+-- no bytes follow the last line
+module _ {A : Type 0} where
+  abbrev pub ended : A → Place → List ℕ → Outcome A
+  ended a p [] = done a p
+  ended a p (c ∷ rest) = refused (Misspelled (p .line))
+
+unfoldable pub table : Place → Outcome Table
+table p =
+    numberLine Keys.processors p and-then λ processors p.
+    numberLine Keys.rounds p and-then λ rounds p.
+    numberLine Keys.graphs p and-then λ n p.
+    graphsFrom 0 n p and-then λ Gs p.
+    ended (record { processors = processors; rounds = rounds; graphs = Gs }) p (p .bytes)
+
+-- refusals 1 to 4
+unfoldable pub readOf : List ℕ → Outcome Table
+readOf s =
+    let t : Outcome Table = table (record { line = 1; bytes = s }) in
+    cond (leb (length s) (Limits.tableBytes .to)) t (refused TooLong)

@@ -1,0 +1,15 @@
+// The text of a table, and reading it: specs/. This crate has no code.
+
+// Document 01's ten refusals. `numberOf` and `lineOf` of specs/Refusals.antt give the number and the line of each.
+pub enum Refusal {
+    TooLong,
+    Misspelled { line: u32 },
+    OutsideLimits { line: u32 },
+    AgainstPredecessorRules { line: u32 },
+    LongHyperperiod,
+    NotLoadable,
+    Backlog,
+    Unsettled,
+    PastTheStop,
+    ShortBuffer,
+}

@@ -1,0 +1,27 @@
+-- Admission: what reading comes to, then the hyperperiod (5), then the load (6).
+use mathlib.Core.Bool.{cond}
+use mathlib.Core.List.{List}
+use Prim.Native.Nat.{ℕ}
+use lib.Dec.{leb}
+use Rattle.format.specs.declared.Refusal.{Refusal}
+use Rattle.format.specs.declared.Refusal.the-variants.{LongHyperperiod, NotLoadable}
+use Rattle.schedule.specs.Limits as Limits
+use Rattle.schedule.specs.Table.{Table, hyperperiod, loadable}
+use Rattle.format.specs.Reading.{Outcome, done, readOf}
+
+-- what is walked, or refusals 1 to 6
+pub data Admission : Type 0 where
+  admitted : Table → Admission
+  refused : Refusal → Admission
+
+unfoldable pub admit : Table → Admission
+admit T =
+    let load : Admission = cond (loadable T) (admitted T) (refused NotLoadable) in
+    cond (leb (hyperperiod T) (Limits.hyperperiod .to)) load (refused LongHyperperiod)
+
+abbrev pub admitRead : Outcome Table → Admission
+admitRead (Outcome.refused r) = refused r
+admitRead (done T p) = admit T
+
+unfoldable pub admissionOf : List ℕ → Admission
+admissionOf s = admitRead (readOf s)

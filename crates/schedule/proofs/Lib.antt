@@ -1,0 +1,3 @@
+pub mod OnePass
+pub mod Tests
+pub mod Cells

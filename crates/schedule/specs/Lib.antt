@@ -1,0 +1,10 @@
+pub mod Limits
+pub mod Lists
+pub mod Table
+pub mod Servers
+pub mod ServerJobs
+pub mod Links
+pub mod State
+pub mod Walk
+pub mod WellFormed
+pub mod LeastTrue
