@@ -1,16 +1,14 @@
 -- Where an event leads: past the boundary's tests the next boundary lies ahead, and a span of one tick at least ends at or before it.
-use mathlib.Core.Path.{_≡_, refl, sym, _∙_}
-use mathlib.Core.Bool.{Bool, true, false, cond}
+use mathlib.Core.Path.{_≡_}
 use mathlib.Core.List.{List}
-use Prim.Native.Nat.{ℕ, zero, suc, _+_, _*_, _-_, _^_, _≤_, _<_, min}
+use Prim.Native.Nat.{ℕ, zero, suc, _+_, _*_, _≤_, _<_, min}
 use native.Mathlib.Nat.{mul-le-mul-right}
 use native.Mathlib.Omega.{arith}
-use lib.Dec.{ltb}
 use lib.ListN.{getD}
-use borrow.Author.Tests.{lt-ltb, le-ltb, ltb-true}
+use borrow.Author.Tests.{lt-ltb, le-ltb}
 use Rattle.schedule.specs.Limits as Limits
 use Rattle.schedule.proofs.Tests.{by-lt}
-use Rattle.window.specs.Entries.{lastKey, further}
+use Rattle.window.specs.Entries.{further}
 use Rattle.window.specs.Spending.{ticksTo, placeAt, lesser, leastLeft}
 
 -- a boundary is at or before the last one

@@ -1,13 +1,13 @@
 -- One turn of each of the walk's inner loops: a server that releases, one that ran, and one whose window is kept; and what the loops come to.
-use mathlib.Core.Path.{_≡_, refl, sym, ap, _∙_}
-use mathlib.Core.Bool.{Bool, true, false, _&&_, cond}
+use mathlib.Core.Path.{_≡_, refl, sym, _∙_}
+use mathlib.Core.Bool.{Bool, true, false, _&&_}
 use mathlib.Core.List.{List}
-use Prim.Native.Nat.{ℕ, zero, suc, _+_, _*_, _-_, _≤_, _<_, min}
+use Prim.Native.Nat.{ℕ, _+_, _*_, _-_, _≤_, _<_}
 use native.Mathlib.Numerals.{add-one}
 use native.Mathlib.Omega.{arith}
 use lib.Dec.{leb, ltb, eqb}
 use lib.ListN.{getD, set}
-use borrow.Author.Tests.{ltb-true, leb-true}
+use borrow.Author.Tests.{ltb-true, leb-true, lt-ltb, le-ltb}
 use Rattle.schedule.specs.Limits as Limits
 use Rattle.schedule.proofs.Tests.{and-l, and-r, T-true, true-T}
 use Rattle.table.specs.declared.Pending.{Pending}
@@ -15,14 +15,15 @@ use Rattle.table.specs.declared.Server.{Server}
 use Rattle.table.specs.declared.State.{State}
 use Rattle.table.specs.declared.Kept.{Kept}
 use Rattle.window.specs.declared.Plan.{Plan}
-use Rattle.window.specs.Entries.{window, lastKey, slotOf, serverAt, countAt, firstAt, unfinishedAt, unlinkedAt, nextAt, further, budgetAt, afterAt, periodAt, stepAt, leadAt, nodesOf}
+use Rattle.window.specs.Entries.{window, slotOf, serverAt, countAt, firstAt, unfinishedAt, unlinkedAt, nextAt, further, budgetAt, afterAt, periodAt, stepAt, leadAt, nodesOf}
 use Rattle.window.specs.Loops.{replaced, inTurn}
 use Rattle.window.specs.Releasing.{earliest, releasesAt, allFewer, linkedNow, newKey, pushed, oneMore, enteredLeft, enteredFirst, countedUnlinked, releaseOne, released}
-use Rattle.window.specs.Choosing.{Picks, Picked, picks, pickKey, bestFrom, noRun, noAt, chosenBy, placeOf}
+use Rattle.window.specs.Choosing.{Picked, picks, noRun, noAt, chosenBy, placeOf}
 use Rattle.window.specs.Spending.{ticksTo, leastLeft, spent}
-use Rattle.window.specs.Finishing.{doneAt, responseOf, shifted, movedDown, laterKey, countedUnfinished, countedWorst, finishAt}
+use Rattle.window.specs.Finishing.{doneAt, responseOf, shifted, shiftedAt, movedDown, laterKey, countedUnfinished, countedWorst, finishAt}
 use Rattle.window.specs.Comparing.{keptLeft, keep}
 use Rattle.window.specs.Working.{withLeft, spanOf, worked}
+use Rattle.window.proofs.Fewer.{picks-most}
 
 -- the state that stands in the walk's locals
 abbrev pub stateOf : List Server → (left first count unfinished unlinked worst next : List ℕ) → State
@@ -68,19 +69,28 @@ pub releases-all : (plan : Plan) (t n i : ℕ) (st : State) → n ≡ nodesOf pl
 unfolding released
 releases-all plan t n i st same e h l = let g : i ≡ nodesOf plan = omega arith in rw g at e
 
+-- the window at i is shifted where more than its oldest is pending
+module _ (st : State) (i : ℕ) where
+  pub windows-shifted : {s : Server} → 1 < countAt st i → s ≡ shifted (serverAt st i) → {u : List Server} → u ≡ set (st .servers) i s
+      → u ≡ shiftedAt (st .servers) i (countAt st i)
+  windows-shifted h e a = rw (lt-ltb 1 (countAt st i) h, ← e) a
+
+  pub windows-kept : countAt st i ≤ 1 → {u : List Server} → u ≡ st .servers → u ≡ shiftedAt (st .servers) i (countAt st i)
+  windows-kept h a = rw (le-ltb 1 (countAt st i) h) a
+
 -- the turn of the server at i, of which a server job ran up to `now`
 module _ (plan : Plan) (now : ℕ) (st : State) (i : ℕ) {servers : List Server} {left first count unfinished worst : List ℕ} where
   pub finishes-none : {x : Bool} → x ≡ doneAt (st .left) (st .count) i → x ≡ false → servers ≡ st .servers → left ≡ st .left → first ≡ st .first
       → count ≡ st .count → unfinished ≡ st .unfinished → worst ≡ st .worst → stateOf servers left first count unfinished (st .unlinked) worst (st .next) ≡ finishAt plan now st i
   finishes-none x e a b c d f g = rw (sym x ∙ e, a, b, c, d, f, g)
 
-  pub finishes-one : {x : Bool} → x ≡ doneAt (st .left) (st .count) i → x ≡ true → {s : Server} {response : ℕ} → s ≡ shifted (serverAt st i)
+  pub finishes-one : {x : Bool} → x ≡ doneAt (st .left) (st .count) i → x ≡ true → {response : ℕ}
       → response ≡ responseOf now (nextAt st i) (countAt st i) ((slotOf (serverAt st i) 0) .behind) (periodAt plan i)
-      → servers ≡ set (st .servers) i s → left ≡ movedDown (st .left) (i * window) (countAt st i)
+      → servers ≡ shiftedAt (st .servers) i (countAt st i) → left ≡ movedDown (st .left) (i * window) (countAt st i)
       → first ≡ set (st .first) i (laterKey (countAt st i) (firstAt st i) (stepAt plan i)) → count ≡ set (st .count) i (countAt st i - 1)
       → unfinished ≡ countedUnfinished (st .unfinished) i ((slotOf (serverAt st i) 0) .linked)
       → worst ≡ countedWorst (st .worst) i ((slotOf (serverAt st i) 0) .linked) response → stateOf servers left first count unfinished (st .unlinked) worst (st .next) ≡ finishAt plan now st i
-  finishes-one x e se re a b c d f g = rw (a, b, c, d, f, g, se, re, sym x ∙ e)
+  finishes-one x e re a b c d f g = rw (a, b, c, d, f, g, re, sym x ∙ e)
 
 pub some-done : (left count : List ℕ) (i : ℕ) {x : Bool} → x ≡ doneAt left count i → x ≡ true → (0 < getD count i 0) × (getD count i 0 ≤ window)
 some-done left count i e h =
@@ -90,19 +100,6 @@ some-done left count i e h =
       ltb-true 0 n (T-true (and-l (ltb 0 n) (leb n window && z) t)),
       leb-true n window (T-true (and-l (leb n window) z (and-r (ltb 0 n) (leb n window && z) t))),
     )
-
--- no more are chosen than there are processors
-count-next : (c q : Picks) (m : ℕ) (b : Bool) → c .count ≤ m → q .count ≡ c .count + 1 → (cond b c q) .count ≤ suc m
-count-next c q m true h e = omega arith
-count-next c q m false h e = omega arith
-
-pub most-picked : (first count level step : List ℕ) (n : ℕ) (run at : List ℕ) (m : ℕ) → (picks first count level step n run at m) .count ≤ m
-unfolding picks
-most-picked first count level step n run at zero = omega arith
-most-picked first count level step n run at (suc m) =
-    let c : Picks = picks first count level step n run at m in
-    let key : ℕ = bestFrom (c .heads) (c .from) n in
-    count-next c (pickKey first count level step n c key) m (eqb key lastKey) (most-picked first count level step n run at m) refl
 
 -- a span's choice, and its work
 module _ (plan : Plan) (t boundary asked n m release : ℕ) (run at : List ℕ) (a : State) (same : n ≡ nodesOf plan)
@@ -118,7 +115,7 @@ module _ (plan : Plan) (t boundary asked n m release : ℕ) (run at : List ℕ) 
 
   pub few-picked : plan .processors ≤ Limits.processors .to → m ≤ Limits.processors .to
   few-picked h =
-      let most = most-picked (a .first) (a .count) (plan .level) (plan .step) n noRun noAt (plan .processors) in
+      let most = picks-most (a .first) (a .count) (plan .level) (plan .step) n noRun noAt (plan .processors) in
       omega (arith, picked .0)
 
   pub worked-all : (d k : ℕ) (left : List ℕ) {later : State} → left ≡ spent (a .left) at d m
