@@ -10,7 +10,7 @@
  * Platform: x86-64 Linux. `./build-library` makes target/staticlib/libphalandrix.a, which needs
  * memcpy and memset and nothing else.
  *
- * Time: a call walks at most 1,290,000 ticks. The longest walks took 0.2 to 0.4 seconds where they
+ * Time: a call walks at most 1,290,000 ticks. The longest walks took 0.03 to 0.05 seconds where they
  * were measured (docs/BENCHMARK.md); that is not proved. Stack: PHALANDRIX_STACK_BYTES, below.
  *
  * This file is the home of the version, of the sentences for people, and of the sizes below: ./run
@@ -78,7 +78,7 @@ enum {
     PHALANDRIX_ROW_BYTES = 384,
     /* The bytes of stack that a call needs at most: measured, rounded up, and held by tests/stack.c.
      * It is not proved. */
-    PHALANDRIX_STACK_BYTES = 36864
+    PHALANDRIX_STACK_BYTES = 20480
 };
 
 /* The report: `answer=0`, `round=`, `ticks=` and one `response=` per graph, a line each. */
