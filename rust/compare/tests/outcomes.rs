@@ -10,14 +10,14 @@ use std::process::Command;
 
 /// Outcomes that have all come up once.
 fn all() -> Outcomes {
-    let once = [1; REFUSALS + 1];
+    let once = [1; 13];
     Outcomes { reports: once, calls: once, forced: 1, invocations: 1, attained: 1 }
 }
 
 #[test]
 fn each_outcome_is_missed() {
     assert!(all().missing(true).is_empty());
-    for number in 1..=REFUSALS {
+    for number in REFUSALS {
         let mut without = all();
         without.calls[number] = 0;
         assert_eq!(without.missing(true), [format!("refusal {number}")]);
