@@ -4,11 +4,11 @@ use simulator::demand3::Looked;
 use std::fmt;
 use std::ops::AddAssign;
 
-/// The numbers of the refusals.
+/// The numbers of the refusals, rising.
 pub const REFUSALS: [usize; 11] = [1, 2, 3, 4, 5, 6, 7, 8, 9, 10, 12];
 
 /// How often there was each number: 0 for an answer, else the refusal.
-pub type Numbers = [u64; 13];
+pub type Numbers = [u64; REFUSALS[REFUSALS.len() - 1] + 1];
 
 /// How often each outcome came up.
 #[derive(Clone, Debug, Default, PartialEq, Eq)]

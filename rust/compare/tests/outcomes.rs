@@ -3,14 +3,14 @@
 use baseline::Pace;
 use compare::library::{Library, Plain};
 use compare::options::Options;
-use compare::outcomes::{Outcomes, REFUSALS};
+use compare::outcomes::{Numbers, Outcomes, REFUSALS};
 use compare::run::run;
 use simulator::Answer;
 use std::process::Command;
 
 /// Outcomes that have all come up once.
 fn all() -> Outcomes {
-    let once = [1; 13];
+    let once = Numbers::default().map(|_| 1);
     Outcomes { reports: once, calls: once, forced: 1, invocations: 1, attained: 1 }
 }
 

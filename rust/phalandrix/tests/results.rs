@@ -62,7 +62,8 @@ fn reasons_are_in_the_order_of_their_numbers() {
 /// Document 02, R-2: 3 ticks in every 2 and no overlap.
 #[test]
 fn a_node_that_cannot_keep_up() {
-    let table = b"processors=2\nrounds=64\ngraphs=1\nperiod=2\noffset=0\nnodes=1\nbudget=3\nlevel=1\nafter=none\n";
+    let table =
+        b"processors=2\nrounds=64\ngraphs=1\nperiod=2\noffset=0\nnodes=1\nbudget=3\nlevel=1\nafter=none\n";
     for refusal in [report_of(table).unwrap_err(), row_at(table, 0).unwrap_err()] {
         assert_eq!((refusal.reason, refusal.reason.number(), refusal.line), (Reason::CannotKeepUp, 12, 0));
         assert!(refusal.to_string().starts_with("refusal 12: a node can never keep up"), "{refusal}");
