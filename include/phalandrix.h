@@ -48,7 +48,8 @@ typedef struct phalandrix_answer {
     REFUSAL(7, BACKLOG, "a server has more than 16 pending server jobs, or a graph more than 64 unfinished invocations") \
     REFUSAL(8, UNSETTLED, "the schedule does not repeat within `rounds` hyperperiods") \
     REFUSAL(9, PAST_THE_STOP, "the instant asked is at or past the stop of the walk") \
-    REFUSAL(10, SHORT_BUFFER, "the text of the answer is longer than the buffer")
+    REFUSAL(10, SHORT_BUFFER, "the text of the answer is longer than the buffer") \
+    REFUSAL(12, CANNOT_KEEP_UP, "a node can never keep up: its budget is above its level times its period")
 
 /* The numbers: PHALANDRIX_ANSWERED, and one for each refusal above. */
 enum {

@@ -8,6 +8,10 @@
 static const char table[] =
     "processors=1\nrounds=2\ngraphs=1\nperiod=4\noffset=0\nnodes=2\n"
     "budget=1\nlevel=1\nafter=none\nbudget=1\nlevel=1\nafter=1\n";
+/* 3 ticks in every 2, and no overlap */
+static const char too_slow[] =
+    "processors=2\nrounds=64\ngraphs=1\nperiod=2\noffset=0\nnodes=1\n"
+    "budget=3\nlevel=1\nafter=none\n";
 static const char report[] = "answer=0\nround=2\nticks=8\nresponse=6\n";
 static const char row[] = "run=1,1,2,2\n";
 
@@ -64,6 +68,8 @@ int main(void)
     expect("report of no bytes", report_in(b, "", ROOM), b, PHALANDRIX_MISSPELLED, 1, "");
     expect("report past a limit", report_in(b, "processors=1\nrounds=0\n", ROOM), b,
            PHALANDRIX_OUTSIDE_LIMITS, 2, "");
+    expect("report of a node that cannot keep up", report_in(b, too_slow, ROOM), b,
+           PHALANDRIX_CANNOT_KEEP_UP, 0, "");
     expect("row at 4", row_in(b, 4, ROOM), b, PHALANDRIX_ANSWERED, 0, row);
     expect("row at the stop", row_in(b, 8, ROOM), b, PHALANDRIX_PAST_THE_STOP, 0, "");
     expect("row past 2^32", row_in(b, UINT64_MAX, ROOM), b, PHALANDRIX_PAST_THE_STOP, 0, "");
@@ -73,6 +79,7 @@ int main(void)
     expect_sentence(PHALANDRIX_ANSWERED, "answered");
     expect_sentence(PHALANDRIX_TOO_LONG, "the table has more than 4,096 bytes");
     expect_sentence(10, "the text of the answer is longer than the buffer");
+    expect_sentence(12, "a node can never keep up");
     expect_sentence(UINT32_MAX, "no number");
     if (failures == 0)
         printf("both calls from C: as they should be\n");

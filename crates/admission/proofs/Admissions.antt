@@ -9,7 +9,7 @@ use lib.Dec.{leb}
 use borrow.Author.Tests.{le-leb, lt-leb, leb-true, leb-false}
 use Rattle.schedule.specs.Limits as Limits
 use Rattle.schedule.specs.Lists.{all?}
-use Rattle.schedule.specs.Table.{Graph, Table, lcm, lcmFrom, hyperperiod, load, loadable}
+use Rattle.schedule.specs.Table.{Graph, Table, lcm, lcmFrom, hyperperiod, load, loadable, keepsUp}
 use Rattle.schedule.specs.WellFormed.{graphFormed, wellFormed}
 use Rattle.rules.specs.Admission.{admit}
 use Rattle.theorems.proofs.Formed.{first-of, second-of, within-limits, graph-formed, table-formed}
@@ -18,7 +18,7 @@ use Rattle.numbers.specs.Multiples.{multipleWithin}
 use Rattle.numbers.proofs.Euclid.{lcm-grows}
 use Rattle.table.specs.declared.Table.{Table as Memory}
 use Rattle.reading.specs.Memory.{memoryOf, tableOf}
-use Rattle.admission.specs.Admission.{codedAdmission, byLoad, byHyperperiod, admittedMemory}
+use Rattle.admission.specs.Admission.{codedAdmission, byPace, byLoad, byHyperperiod, admittedMemory}
 use Rattle.admission.specs.Loads.{hyperperiodWithin, graphsLoad, roomAfter}
 use Rattle.reading.proofs.MemoryLaws.{table-of-memory}
 
@@ -55,7 +55,11 @@ admitted-alike t T e f formed =
     ∙ by-test (leb H most)
     (λ h. rw h
     (ap (λ (U : Table). byLoad t H (roomAfter (U .processors * H) (graphsLoad H (U .graphs)))) f
-    ∙ by-test (leb (graphsLoad H (T .graphs)) (T .processors * H)) (λ g. rw (g, e)) (λ g. rw g)))
+    ∙ by-test (leb (graphsLoad H (T .graphs)) (T .processors * H))
+    (λ g. rw g
+    (ap (λ (U : Table). byPace t H (keepsUp U)) f
+    ∙ by-test (keepsUp T) (λ k. rw (k, e)) (λ k. rw k)))
+    (λ g. rw g)))
     (λ h. rw h)
 
 pub admitted-memory : (T : Table) → wellFormed T ≡ true → admittedMemory (memoryOf T) ≡ codedAdmission (admit T)

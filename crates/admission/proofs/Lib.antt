@@ -1,2 +1,3 @@
 pub mod LoadLaws
+pub mod PaceLaws
 pub mod Admissions

@@ -1,9 +1,10 @@
 -- Admission in the form of the code's struct.
+use mathlib.Core.Bool.{Bool, true, false}
 use Prim.Native.Nat.{ℕ, _*_}
 use Rattle.format.specs.declared.Refusal.{Refusal}
-use Rattle.format.specs.declared.Refusal.the-variants.{LongHyperperiod, NotLoadable}
+use Rattle.format.specs.declared.Refusal.the-variants.{LongHyperperiod, NotLoadable, CannotKeepUp}
 use Rattle.schedule.specs.Limits as Limits
-use Rattle.schedule.specs.Table.{hyperperiod}
+use Rattle.schedule.specs.Table.{hyperperiod, keepsUp}
 use Rattle.rules.specs.Admission.{Admission, admitted, refused}
 use Rattle.numbers.specs.declared.multiples.Multiple.{Multiple}
 use Rattle.numbers.specs.declared.multiples.Multiple.the-variants.{Within, Past}
@@ -25,9 +26,13 @@ codedAdmission (refused r) = codedRefusal r
 codedAdmission (admitted T) = record { table = memoryOf T; hyperperiod = hyperperiod T; verdict = Verdict.Passed }
 
 -- a table in memory, admitted or refused
+abbrev pub byPace : Table → ℕ → Bool → Admitted
+byPace t h false = codedRefusal CannotKeepUp
+byPace t h true = record { table = t; hyperperiod = h; verdict = Verdict.Passed }
+
 abbrev pub byLoad : Table → ℕ → Room → Admitted
 byLoad t h Over = codedRefusal NotLoadable
-byLoad t h (Left room) = record { table = t; hyperperiod = h; verdict = Verdict.Passed }
+byLoad t h (Left room) = byPace t h (keepsUp (tableOf t))
 
 abbrev pub byHyperperiod : Table → Multiple → Admitted
 byHyperperiod t Past = codedRefusal LongHyperperiod

@@ -1,6 +1,7 @@
-// Admitting a table: refusals 5 and 6 of one that is read, after 1 to 4 of reading it.
+// Admitting a table: refusals 5, 6 and 12 of one that is read, after 1 to 4 of reading it.
 mod admitting;
 mod loads;
+mod paces;
 
 pub use admitting::Admitted;
 pub use admitting::Verdict;

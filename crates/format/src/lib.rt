@@ -1,6 +1,7 @@
 // The text of a table, and reading it: specs/. This crate has no code.
 
-// Document 01's ten refusals. `numberOf` and `lineOf` of specs/Refusals.antt give the number and the line of each.
+// The refusals of document 01, and after them those of document 02's requests. `numberOf` and `lineOf` of specs/Refusals.antt give the
+// number and the line of each.
 pub enum Refusal {
     TooLong,
     Misspelled { line: u32 },
@@ -12,4 +13,6 @@ pub enum Refusal {
     Unsettled,
     PastTheStop,
     ShortBuffer,
+    // R-2: a node whose budget is above its level times its period.
+    CannotKeepUp,
 }

@@ -1,21 +1,31 @@
 -- The worked cases hold, by computation: for the walk in one pass, and so for that of the definitions.
 use mathlib.Core.Path.{_≡_, refl, subst}
-use mathlib.Core.List.{map}
-use Rattle.schedule.specs.Servers.{Box}
+use mathlib.Core.List.{[], _∷_, map}
+use Rattle.schedule.specs.Servers.{Box, boxOf}
 use Rattle.schedule.specs.Walk.{Walked, wholeWalk}
 use Rattle.schedule.proofs.Walking.{onePassWalk, same-walk}
+use Rattle.format.specs.declared.Refusal.the-variants.{CannotKeepUp}
 use Rattle.format.specs.Bytes.{bytes}
-use Rattle.rules.specs.Admission.{admit, admissionOf}
-use Rattle.rules.specs.Answers.{printed, callOf}
+use Rattle.rules.specs.Admission.{refused, admit, admissionOf}
+use Rattle.rules.specs.Answers.{reportOn, printed, callOf}
 use Rattle.rules.specs.AnswerNumbers.{answerNumber, answerLineNumber, answerLength}
-use Rattle.rules.specs.Cases.{AdmissionCase, admissions, replyTo, PrintCase, printCases, CallCase, callCases, lent, AnswerCase, told, answerCases}
+use Rattle.rules.specs.Cases.{AdmissionCase, admissions, Overtaken, overtakes, overtaken, replyTo, PrintCase, printCases, StopCase, stopCases, CallCase, callCases, lent, AnswerCase, told, answerCases}
 use Rattle.rules.proofs.Computing.{answering}
 
 pub admissions-hold : map (λ (c : AdmissionCase). admit (c .table)) admissions ≡ map (λ (c : AdmissionCase). c .gives (c .table)) admissions
 unfolding answering admissions
 admissions-hold = refl
 
+-- what both hold of: 12 is given, and the walk would stop so
+pub overtaken-refused : map (λ (c : Overtaken). admit (c .table)) overtaken ≡ map (λ (c : Overtaken). refused CannotKeepUp) overtaken
+unfolding answering overtaken
+overtaken-refused = refl
+
 -- by the walk of a box
+abbrev Stopping : (Box → Walked) → Type 0
+Stopping walk =
+    map (λ (c : Overtaken). let w : Walked = walk (boxOf (c .table)) in overtakes (c .table) (w .how) (w .ticks)) overtaken ≡ overtaken
+
 abbrev Printed : (Box → Walked) → Type 0
 Printed walk =
     map (λ (c : PrintCase). printed (replyTo walk (c .asked) (admissionOf (bytes (c .table))))) printCases ≡ map (λ (c : PrintCase). bytes (c .prints)) printCases
@@ -25,6 +35,10 @@ Called walk =
     map (λ (c : CallCase). callOf (lent (c .room)) (replyTo walk (c .asked) (admissionOf (bytes (c .table))))) callCases
     ≡ map (λ (c : CallCase). c .gives) callCases
 
+stopping-computed : Stopping onePassWalk
+unfolding answering overtaken
+stopping-computed = refl
+
 printed-computed : Printed onePassWalk
 unfolding answering printCases
 printed-computed = refl
@@ -33,11 +47,18 @@ called-computed : Called onePassWalk
 unfolding answering callCases
 called-computed = refl
 
+pub overtaken-stop : Stopping wholeWalk
+overtaken-stop = subst Stopping same-walk stopping-computed
+
 pub answers-hold : Printed wholeWalk
 answers-hold = subst Printed same-walk printed-computed
 
 pub calls-hold : Called wholeWalk
 calls-hold = subst Called same-walk called-computed
+
+pub stops-reported : map (λ (c : StopCase). printed (reportOn (c .how) 8 (6 ∷ []))) stopCases ≡ map (λ (c : StopCase). bytes (c .prints)) stopCases
+unfolding answering stopCases
+stops-reported = refl
 
 pub numbers-hold : map (λ (c : AnswerCase). told (c .answer) (answerNumber (c .answer)) (answerLineNumber (c .answer)) (answerLength (c .answer))) answerCases ≡ answerCases
 unfolding answerCases

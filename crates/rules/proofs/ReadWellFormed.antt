@@ -12,7 +12,7 @@ use Rattle.schedule.specs.Limits as Limits
 use Rattle.schedule.specs.Lists.{all?, sum}
 use Rattle.format.specs.Keys as Keys
 use Rattle.format.specs.Keys.{keys}
-use Rattle.schedule.specs.Table.{Graph, Table, hyperperiod, loadable}
+use Rattle.schedule.specs.Table.{Graph, Table, hyperperiod, loadable, keepsUp}
 use Rattle.schedule.specs.WellFormed.{within, orderly, allFollowed, nodesFormed, graphFormed, wellFormed}
 use Rattle.format.specs.Reading.{Place, Outcome, done, numberLine, afterLine, node, nodesFrom, graphNodes, graph, graphsFrom, ended, table, readOf, refused}
 use Rattle.rules.specs.Admission.{Admission, admitted, admit, admitRead, admissionOf}
@@ -124,7 +124,9 @@ admitted-holds P (refused r) U e h = absurd (let z : _≡_ {A = ℕ} 0 1 = cc in
 admitted-holds P (done W q) U e h =
     by-test (leb (hyperperiod W) (Limits.hyperperiod .to))
     (λ f. by-test (loadable W)
-    (λ g. let same : W ≡ U = inner (rw (f, g) at e) in (subst P same h, leb-true (hyperperiod U) (Limits.hyperperiod .to) (rw same at f)))
+    (λ g. by-test (keepsUp W)
+    (λ k. let same : W ≡ U = inner (rw (f, g, k) at e) in (subst P same h, leb-true (hyperperiod U) (Limits.hyperperiod .to) (rw same at f)))
+    (λ k. absurd (no-refusal (rw (f, g, k) at e))))
     (λ g. absurd (no-refusal (rw (f, g) at e))))
     (λ f. absurd (no-refusal (rw f at e)))
   where

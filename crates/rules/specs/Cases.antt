@@ -1,4 +1,4 @@
--- Worked cases of admission, of answers and of calls with a lent buffer. They are computed in proofs/Cases.antt.
+-- Worked cases of admission, of the order of the refusals, of answers and of calls with a lent buffer. They are computed in proofs/Cases.antt.
 use mathlib.Core.List.{List, [], _∷_, _++_}
 use Prim.Native.Nat.{ℕ}
 use Prim.Native.String.{String}
@@ -6,16 +6,16 @@ use lib.ListN.{length, replicate}
 use Rattle.schedule.specs.Table.{Table}
 use Rattle.schedule.specs.Described.{table, graph, alone, one, chain}
 use Rattle.schedule.specs.Servers.{Box}
-use Rattle.schedule.specs.Walk.{Walked}
+use Rattle.schedule.specs.Walk.{Stop, settled, unsettled, backlog, Walked}
 use Rattle.format.specs.declared.Refusal.{Refusal}
-use Rattle.format.specs.declared.Refusal.the-variants.{Misspelled, AgainstPredecessorRules, LongHyperperiod, NotLoadable, Backlog, Unsettled, PastTheStop, ShortBuffer}
+use Rattle.format.specs.declared.Refusal.the-variants.{Misspelled, AgainstPredecessorRules, LongHyperperiod, NotLoadable, Backlog, Unsettled, PastTheStop, ShortBuffer, CannotKeepUp}
 use Rattle.format.specs.Bytes.{bytes}
 use Rattle.rules.specs.declared.Answer.{Answer}
 use Rattle.rules.specs.declared.Answer.the-variants.{Text, Refused}
 use Rattle.rules.specs.Admission.{Admission, admitted, refused}
 use Rattle.rules.specs.Answers.{Reply, reportAdmitted, rowAdmitted, Call}
 
--- admission: H at its limit and past it, the load full and past it, and 5 before 6
+-- admission: H at its limit and past it, the load full and past it, a budget at level × period and past it; and 5 before 6 before 12
 pub record AdmissionCase : Type 0 where
   pub table : Table
   pub gives : Table → Admission
@@ -36,8 +36,27 @@ admissions =
     ∷ refuses (twoPeriods 10000 6667 1) LongHyperperiod
     ∷ admits (alone 1 1 4 (chain 2 2))
     ∷ refuses (alone 1 1 4 (chain 3 2)) NotLoadable
+    ∷ admits (alone 1 1 4 (one 4 1))
+    ∷ admits (alone 2 1 2 (one 4 2))
+    ∷ refuses (alone 2 1 2 (one 3 1)) CannotKeepUp
+    ∷ refuses (alone 3 1 2 (one 5 2)) CannotKeepUp
+    -- both 5 and 6 hold; both 5 and 12; both 6 and 12
     ∷ refuses (twoPeriods 177 113 177) LongHyperperiod
+    ∷ refuses (table 8 1 (graph 177 0 (one 178 1) ∷ graph 113 0 (one 1 1) ∷ [])) LongHyperperiod
+    ∷ refuses (alone 1 1 2 (one 3 1)) NotLoadable
     ∷ []
+
+-- 12 before 7 and 8: both hold of these tables, for so would their walks stop
+pub record Overtaken : Type 0 where
+  pub table : Table
+  pub how : Stop
+  pub ticks : ℕ
+
+abbrev pub overtakes : Table → Stop → ℕ → Overtaken
+overtakes T how ticks = record { table = T; how = how; ticks = ticks }
+
+unfoldable pub overtaken : List Overtaken
+overtaken = overtakes (alone 8 64 1 (one 8 1)) backlog 18 ∷ overtakes (alone 8 6 1 (one 8 1)) unsettled 6 ∷ []
 
 -- tables of one graph as text: processors, rounds, period, and the nodes' lines
 abbrev pub node-1-every-4 : String
@@ -64,9 +83,12 @@ long-hyperperiod = "processors=1\nrounds=1\ngraphs=2\nperiod=10000\noffset=0\nno
 abbrev pub long-hyperperiod-against-4 : String
 long-hyperperiod-against-4 = "processors=1\nrounds=1\ngraphs=2\nperiod=10000\noffset=0\nnodes=1\nbudget=1\nlevel=1\nafter=none\nperiod=6667\noffset=0\nnodes=1\nbudget=1\nlevel=1\nafter=1\n"
 
--- one server job of 8 ticks is released in each tick, and runs alone: 17 are pending at 18
-abbrev pub late-at-18 : String
-late-at-18 = "processors=8\nrounds=64\ngraphs=1\nperiod=1\noffset=0\nnodes=1\nbudget=8\nlevel=1\nafter=none\n"
+-- one server job of 8 ticks is released in each tick, and none runs beside another: the first of `overtaken`. And the same on one processor
+abbrev pub eight-every-1 : String
+eight-every-1 = "processors=8\nrounds=64\ngraphs=1\nperiod=1\noffset=0\nnodes=1\nbudget=8\nlevel=1\nafter=none\n"
+
+abbrev pub eight-every-1-on-1 : String
+eight-every-1-on-1 = "processors=1\nrounds=64\ngraphs=1\nperiod=1\noffset=0\nnodes=1\nbudget=8\nlevel=1\nafter=none\n"
 
 -- what is asked of a table
 pub data Asked : Type 0 where
@@ -98,7 +120,8 @@ printCases =
     ∷ prints long-hyperperiod report "answer=5\nline=0\n"
     ∷ prints long-hyperperiod-against-4 report "answer=4\nline=15\n"
     ∷ prints chain-3-2 report "answer=6\nline=0\n"
-    ∷ prints late-at-18 report "answer=7\nline=0\n"
+    ∷ prints eight-every-1-on-1 report "answer=6\nline=0\n"
+    ∷ prints eight-every-1 report "answer=12\nline=0\n"
     ∷ prints chain-1-1-in-1-round report "answer=8\nline=0\n"
     -- rows: a line for each running server job; none in an idle tick
     ∷ prints chain-1-1 (row 1) "run=1,2,1,0\n"
@@ -109,12 +132,29 @@ printCases =
     ∷ prints chain-1-1 (row 7) ""
     ∷ prints chain-1-1 (row 8) "answer=9\nline=0\n"
     ∷ prints chain-1-1 (row 9) "answer=9\nline=0\n"
-    -- before the stop also where the report gives 7 or 8; the table's own refusals come first
+    -- before the stop also where the report gives 7 or 8
     ∷ prints chain-1-1-in-1-round (row 0) "run=1,1,1,1\n"
     ∷ prints chain-1-1-in-1-round (row 4) "answer=9\nline=0\n"
-    ∷ prints late-at-18 (row 17) "run=1,1,3,3\n"
-    ∷ prints late-at-18 (row 18) "answer=9\nline=0\n"
+    -- the table's own refusals come first, also for rows that the walk would show, and before 9
     ∷ prints chain-3-2 (row 9) "answer=6\nline=0\n"
+    ∷ prints eight-every-1-on-1 (row 0) "answer=6\nline=0\n"
+    ∷ prints eight-every-1 (row 17) "answer=12\nline=0\n"
+    ∷ prints eight-every-1 (row 18) "answer=12\nline=0\n"
+    ∷ []
+
+-- the report of each way to stop. (A table whose own walk stops with backlog: crates worked and answers)
+pub record StopCase : Type 0 where
+  pub how : Stop
+  pub prints : String
+
+abbrev pub reports : Stop → String → StopCase
+reports how s = record { how = how; prints = s }
+
+unfoldable pub stopCases : List StopCase
+stopCases =
+    reports (settled 2) "answer=0\nround=2\nticks=8\nresponse=6\n"
+    ∷ reports backlog "answer=7\nline=0\n"
+    ∷ reports unsettled "answer=8\nline=0\n"
     ∷ []
 
 -- calls with a lent buffer, whose bytes are all 255
@@ -154,7 +194,8 @@ callCases =
     -- every other refusal comes before 10, and a buffer that is long enough changes none
     ∷ leaves "" report 0 (Misspelled 1)
     ∷ leaves chain-3-2 report 0 NotLoadable
-    ∷ leaves late-at-18 report 0 Backlog
+    ∷ leaves eight-every-1 report 0 CannotKeepUp
+    ∷ leaves eight-every-1 (row 0) 0 CannotKeepUp
     ∷ leaves chain-1-1-in-1-round report 0 Unsettled
     ∷ leaves chain-1-1 (row 8) 0 PastTheStop
     ∷ leaves chain-1-1-in-1-round report 50 Unsettled
@@ -177,4 +218,5 @@ answerCases =
     ∷ told (Text 0) 0 0 0
     ∷ told (Refused (AgainstPredecessorRules 12)) 4 12 0
     ∷ told (Refused Backlog) 7 0 0
+    ∷ told (Refused CannotKeepUp) 12 0 0
     ∷ []

@@ -7,7 +7,7 @@ use Prim.Native.Nat.{ℕ, suc, _-_}
 use lib.Dec.{T}
 use lib.ListN.{replicate}
 use Rattle.schedule.specs.Lists.{all?, tab}
-use Rattle.schedule.specs.Table.{Table, hyperperiod, load, loadable}
+use Rattle.schedule.specs.Table.{Table, hyperperiod, load, loadable, keepsUp}
 use Rattle.schedule.specs.WellFormed.{rising, orderly, followed, allFollowed, nodesFormed, graphFormed, wellFormed}
 use Rattle.schedule.specs.Servers.{Box, boxOf, whole}
 use Rattle.schedule.specs.State.{State, sameState, stateAt}
@@ -34,6 +34,14 @@ misformed-hold = tt
 pub loads-hold : map (λ (c : LoadCase). loads (c .table) (hyperperiod (c .table)) (load (c .table)) (loadable (c .table))) Tables.loadCases ≡ Tables.loadCases
 unfolding computing Tables.loadCases
 loads-hold = refl
+
+pub keeping-up-holds : T (all? keepsUp Tables.keepingUp)
+unfolding keepsUp Tables.keepingUp
+keeping-up-holds = tt
+
+pub falling-behind-holds : T (all? (λ (X : Table). not (keepsUp X)) Tables.fallingBehind)
+unfolding keepsUp Tables.fallingBehind
+falling-behind-holds = tt
 
 pub box-holds : boxOf twoGraphs ≡ boxOfTwoGraphs
 unfolding computing boxOfTwoGraphs

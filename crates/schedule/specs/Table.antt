@@ -1,9 +1,9 @@
--- A table as a reader sees it, its hyperperiod and its load.
+-- A table as a reader sees it, its hyperperiod, its load, and whether each node keeps up.
 use mathlib.Core.Bool.{Bool}
 use mathlib.Core.List.{List, [], _∷_}
 use Prim.Native.Nat.{ℕ, zero, suc, _*_, _/_, _%_}
 use lib.Dec.{leb}
-use Rattle.schedule.specs.Lists.{sum, largest}
+use Rattle.schedule.specs.Lists.{all?, sum, largest}
 
 -- a node: `after` are the numbers of its predecessors in its graph, rising
 pub record Node : Type 0 where
@@ -39,6 +39,10 @@ unfoldable pub lcmFrom : ℕ → List Graph → ℕ
 lcmFrom h [] = h
 lcmFrom h (G ∷ Gs) = lcmFrom (lcm h (G .period)) Gs
 
+-- a node of a graph with that period keeps up where its budget is at most its level times the period: it can be given no more ticks than that
+abbrev pub nodeKeepsUp : ℕ → Node → Bool
+nodeKeepsUp period x = leb (x .budget) (x .level * period)
+
 module _ (T : Table) where
   -- the hyperperiod: the least common multiple of the periods
   unfoldable pub hyperperiod : ℕ
@@ -53,3 +57,7 @@ module _ (T : Table) where
 
   unfoldable pub loadable : Bool
   loadable = leb load (T .processors * hyperperiod)
+
+  -- every node does
+  unfoldable pub keepsUp : Bool
+  keepsUp = all? (λ (G : Graph). all? (nodeKeepsUp (G .period)) (G .nodes)) (T .graphs)

@@ -1,4 +1,5 @@
--- Worked cases of tables: both sides of every limit, tables that are well-formed and such that are not, hyperperiods and loads, and a box.
+-- Worked cases of tables: both sides of every limit, tables that are well-formed and such that are not, hyperperiods and loads, nodes that keep
+-- up and such that do not, and a box.
 -- They are computed in proofs/Cases.antt.
 use mathlib.Core.Bool.{Bool, true, false, cond, not, _&&_}
 use mathlib.Core.List.{List, [], _∷_, _++_}
@@ -113,6 +114,28 @@ loadCases =
     ∷ loads (table 1 1 (graph 6 0 (one 2 1) ∷ graph 4 0 (one 3 1) ∷ [])) 12 13 false
     ∷ loads (table 1 1 (graph 4 0 (one 1 1) ∷ graph 6 0 (one 1 1) ∷ graph 9 0 (one 1 1) ∷ [])) 36 19 true
     ∷ loads (table 1 1 (graph 10000 0 (one 1 1) ∷ graph 6667 0 (one 1 1) ∷ [])) 66670000 16667 true
+    ∷ []
+
+-- tables whose nodes all keep up: the budget is at most level × period
+unfoldable pub keepingUp : List Table
+keepingUp =
+    alone 1 1 4 (one 4 1)
+    ∷ alone 2 1 2 (one 3 2)
+    ∷ alone 8 1 2500 (one 10000 4)
+    -- each node by the period of its own graph
+    ∷ table 3 1 (graph 4 0 (chain 4 4) ∷ graph 2 0 (one 2 1) ∷ [])
+    ∷ []
+
+-- and tables with one that does not: one tick more, at each level; the last node; a node of the last graph; more processors are no help
+unfoldable pub fallingBehind : List Table
+fallingBehind =
+    alone 2 1 4 (one 5 1)
+    ∷ alone 2 1 2 (one 3 1)
+    ∷ alone 3 1 2 (one 5 2)
+    ∷ alone 8 1 2499 (one 9997 4)
+    ∷ alone 8 1 4 (chain 4 5)
+    ∷ alone 8 1 4 (chain 5 4)
+    ∷ table 8 1 (graph 4 0 (one 4 1) ∷ graph 2 0 (one 3 1) ∷ [])
     ∷ []
 
 -- what is walked of a table of two graphs: a server for each node, by graph and node; predecessors and sinks are places from 0

@@ -71,12 +71,15 @@ fn walk_at(pace: Pace, engine: &mut Engine, hyperperiod: u32, asked: Option<u32>
     }
 }
 
-/// Refusals 1 to 6.
+/// Refusals 1 to 6 and 12.
 fn judge(bytes: &[u8]) -> Result<(Table, u32), Answer> {
     let table = crate::reader::read(bytes)?;
     let hyperperiod = table.hyperperiod().ok_or(Answer::refusal(5, 0))?;
     if !table.is_loadable(hyperperiod) {
         return Err(Answer::refusal(6, 0));
+    }
+    if !table.keeps_up() {
+        return Err(Answer::refusal(12, 0));
     }
     Ok((table, hyperperiod))
 }

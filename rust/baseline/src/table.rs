@@ -80,6 +80,14 @@ impl Table {
         }
         load <= u64::from(self.processors) * u64::from(hyperperiod)
     }
+
+    /// Each budget is at most level times period: at most 4 x 10^4.
+    pub fn keeps_up(&self) -> bool {
+        self.graphs().iter().all(|graph| {
+            let nodes = &self.nodes[graph.first..graph.first + graph.nodes];
+            nodes.iter().all(|node| node.budget <= node.level * graph.period)
+        })
+    }
 }
 
 fn greatest_common_divisor(first: u32, second: u32) -> u32 {

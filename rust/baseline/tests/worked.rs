@@ -55,8 +55,11 @@ fn one_graph() {
     assert_eq!(report_of(&one(1, 64, 4, &[(3, 1, "none"), (2, 1, "1")])), Err((6, 0)));
     assert_eq!(report_of(&one(2, 64, 4, &[(4, 1, "none"), (4, 1, "1")])), answer(2, 8, &[8]));
     assert_eq!(report_of(&one(2, 64, 2, &[(3, 2, "none")])), answer(2, 4, &[3]));
-    assert_eq!(report_of(&one(2, 46, 2, &[(3, 1, "none")])), Err((8, 0)));
-    assert_eq!(report_of(&one(2, 47, 2, &[(3, 1, "none")])), Err((7, 0)));
+    for rounds in [1, 46, 47, 64] {
+        assert_eq!(report_of(&one(2, rounds, 2, &[(3, 1, "none")])), Err((12, 0)));
+    }
+    assert_eq!(report_of(&one(1, 64, 2, &[(3, 1, "none")])), Err((6, 0)));
+    assert_eq!(report_of(&one(1, 64, 4, &[(4, 1, "none")])), answer(1, 4, &[4]));
     assert_eq!(report_of(&one(1, 64, 10_001, &[(1, 1, "none")])), Err((3, 4)));
     assert_eq!(report_of(""), Err((2, 1)));
 }
@@ -69,8 +72,7 @@ fn rows() {
     assert_eq!(row_of(&table, 2), Ok(String::new()));
     assert_eq!(row_of(&table, 8), Err((9, 0)));
     assert_eq!(row_of(&table, (1 << 32) + 1), Err((9, 0)));
-    assert_eq!(row_of(&one(2, 47, 2, &[(3, 1, "none")]), 91), Ok("run=1,1,31,31\n".into()));
-    assert_eq!(row_of(&one(2, 47, 2, &[(3, 1, "none")]), 92), Err((9, 0)));
+    assert_eq!(row_of(&one(2, 47, 2, &[(3, 1, "none")]), 91), Err((12, 0)));
 }
 
 #[test]
@@ -80,6 +82,20 @@ fn two_graphs() {
     assert_eq!(report_of(&two(single(4, 0, 1), single(4, 0, 1))), answer(1, 4, &[1, 2]));
     assert_eq!(report_of(&two(single(4, 0, 2), single(8, 1, 3))), answer(1, 9, &[2, 6]));
     assert_eq!(report_of(&two(single(10_000, 0, 1), single(6_667, 0, 1))), Err((5, 0)));
+}
+
+/// Nodes that all keep up, and still a backlog.
+#[test]
+fn backlog() {
+    let pair = [(2, 1, "none"), (2, 1, "1")];
+    let late = format!(
+        "processors=2\nrounds=64\ngraphs=2\n{}{}",
+        graph(3, 0, &pair),
+        graph(546, 0, &[(364, 1, "none")])
+    );
+    assert_eq!(report_of(&late), Err((7, 0)));
+    assert!(row_of(&late, 728).is_ok());
+    assert_eq!(row_of(&late, 729), Err((9, 0)));
 }
 
 #[test]

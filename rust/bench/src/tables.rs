@@ -34,21 +34,23 @@ fn chain(period: u32, offset: u32, level: u32, budgets: &[u32]) -> Graph {
     Graph { period, offset, nodes: nodes.collect() }
 }
 
-/// The worked tables of document 01 that are walked.
+/// The worked tables of document 01 that are walked, and one that comes to a
+/// backlog though every node keeps up.
 pub fn document() -> Vec<Case> {
     let one = |processors, rounds, graph| Table { processors, rounds, graphs: vec![graph] };
     let two = |one, other| Table { processors: 1, rounds: 64, graphs: vec![one, other] };
+    let late =
+        Table { processors: 2, rounds: 64, graphs: vec![chain(3, 0, 1, &[2, 2]), chain(546, 0, 1, &[364])] };
     vec![
         Case::new("one node of 1", &one(1, 64, chain(4, 0, 1, &[1]))),
         Case::new("chain 1, 1", &one(1, 64, chain(4, 0, 1, &[1, 1]))),
         Case::new("chain 2, 2", &one(1, 64, chain(4, 0, 1, &[2, 2]))),
         Case::new("chain 4, 4", &one(2, 64, chain(4, 0, 1, &[4, 4]))),
         Case::new("3 in 2, level 2", &one(2, 64, chain(2, 0, 2, &[3]))),
-        Case::new("3 in 2, level 1, 46 rounds", &one(2, 46, chain(2, 0, 1, &[3]))),
-        Case::new("3 in 2, level 1, 47 rounds", &one(2, 47, chain(2, 0, 1, &[3]))),
         Case::new("two graphs of 1", &two(chain(4, 0, 1, &[1]), chain(4, 0, 1, &[1]))),
         Case::new("two graphs, offset", &two(chain(4, 0, 1, &[2]), chain(8, 1, 1, &[3]))),
         Case::new("period 10,000", &one(1, 64, chain(10_000, 0, 1, &[1]))),
+        Case::new("backlog at 729", &late),
     ]
 }
 
@@ -131,20 +133,23 @@ pub fn turbine() -> Vec<Case> {
 }
 
 /// Periods whose hyperperiod is 20,000.
-const PERIODS: [u32; 8] = [4_000, 10_000, 5_000, 2_500, 1_000, 625, 500, 160];
+const PERIODS: [u32; 8] = [10_000, 4_000, 5_000, 2_500, 1_000, 625, 500, 160];
 
-/// Graphs of `nodes` nodes each, with offset 10,000, that never settle: the
-/// first server needs a tick more than its period and may not overlap, so it
-/// is later by a tick in each. The others load most of the other seven processors.
+/// Graphs of `nodes` nodes each, the first with offset 10,000. Up to three
+/// servers of the first graph must run in every tick at level 1; the others
+/// load 65 of 100 ticks of the processors left. With 32 nodes the three lose
+/// some ticks to earlier deadlines, so that the state still changes after 64
+/// rounds. (The three, the offsets and the 65 were found by a search.)
 fn drifting(graphs: usize, nodes: usize, rounds: u32) -> Table {
-    let others = (graphs * nodes - 1).max(1) as u32;
+    let full = nodes.min(3);
+    let others = (graphs * nodes - full).max(1) as u32;
     let graph = |(index, &period): (usize, &u32)| {
-        let budget = (period * 67 / 10 / others).clamp(1, period);
+        let budget = (period * 65 / 100 * (8 - full as u32) / others).clamp(1, period);
         let mut budgets = vec![budget; nodes];
         if index == 0 {
-            budgets[0] = period + 1;
+            budgets[..full].fill(period);
         }
-        chain(period, if index == 0 { 10_000 } else { 7 * index as u32 }, 1, &budgets)
+        chain(period, if index == 0 { 10_000 } else { 11 * index as u32 }, 1, &budgets)
     };
     let graphs = PERIODS[..graphs].iter().enumerate().map(graph).collect();
     Table { processors: 8, rounds, graphs }
@@ -157,10 +162,10 @@ pub fn by_ticks() -> Vec<Case> {
         .into()
 }
 
-/// More and more nodes on 8 processors.
+/// More and more nodes on 8 processors, in one round.
 pub fn by_nodes() -> Vec<Case> {
     [(2, 1), (2, 2), (4, 2), (8, 2), (8, 3), (8, 4)]
-        .map(|(graphs, nodes)| Case::new(format!("{} nodes", graphs * nodes), &drifting(graphs, nodes, 8)))
+        .map(|(graphs, nodes)| Case::new(format!("{} nodes", graphs * nodes), &drifting(graphs, nodes, 1)))
         .into()
 }
 

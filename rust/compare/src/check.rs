@@ -2,7 +2,7 @@
 
 use crate::call::{Difference, Question, difference};
 use crate::library::Library;
-use crate::outcomes::REFUSALS;
+use crate::outcomes::Numbers;
 use generator::Rng;
 use simulator::Reply;
 use simulator::question::Answered;
@@ -28,14 +28,14 @@ impl Effort {
 /// What came of a table: how many calls of each number, and the first difference.
 pub struct Checked {
     pub report: Reply,
-    pub calls: [u64; REFUSALS + 1],
+    pub calls: Numbers,
     pub difference: Option<Difference>,
 }
 
 pub fn check(library: &dyn Library, table: &[u8], effort: Effort, rng: &mut Rng) -> Checked {
     let answered = Answered::new(table);
     let report = answered.report();
-    let mut calls = [0; REFUSALS + 1];
+    let mut calls = Numbers::default();
     let mut first = None;
     let mut ask = |question, reply: &Reply, length| {
         if first.is_none() {

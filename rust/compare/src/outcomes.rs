@@ -4,16 +4,19 @@ use simulator::demand3::Looked;
 use std::fmt;
 use std::ops::AddAssign;
 
-/// The refusals are numbered from 1 to this.
-pub const REFUSALS: usize = 10;
+/// The numbers of the refusals, rising.
+pub const REFUSALS: [usize; 11] = [1, 2, 3, 4, 5, 6, 7, 8, 9, 10, 12];
+
+/// How often there was each number: 0 for an answer, else the refusal.
+pub type Numbers = [u64; REFUSALS[REFUSALS.len() - 1] + 1];
 
 /// How often each outcome came up.
 #[derive(Clone, Debug, Default, PartialEq, Eq)]
 pub struct Outcomes {
     /// Tables by the number of their report: 0 for one that settled, else the refusal.
-    pub reports: [u64; REFUSALS + 1],
+    pub reports: Numbers,
     /// Calls by the number of their answer.
-    pub calls: [u64; REFUSALS + 1],
+    pub calls: Numbers,
     /// Tables looked at for demand 3.
     pub forced: u64,
     /// Its first half: invocations, none of them above the figure.
@@ -32,7 +35,7 @@ impl Outcomes {
 
     /// The outcomes that never came up. Demand 3 counts where the run was to look at it.
     pub fn missing(&self, demand_3: bool) -> Vec<String> {
-        let refusals = (1..=REFUSALS).map(|number| (format!("refusal {number}"), self.calls[number]));
+        let refusals = REFUSALS.map(|number| (format!("refusal {number}"), self.calls[number]));
         let mut all: Vec<(String, u64)> = vec![("a settled table".into(), self.reports[0])];
         all.extend(refusals);
         if demand_3 {
@@ -60,8 +63,8 @@ impl fmt::Display for Outcomes {
         let calls: u64 = self.calls.iter().sum();
         write!(out, "{tables} tables, {calls} calls, 0 differences; {} tables settled", self.reports[0])?;
         write!(out, "; calls answered {}", self.calls[0])?;
-        for (number, count) in self.calls.iter().enumerate().skip(1) {
-            write!(out, ", refused as {number} {count}")?;
+        for number in REFUSALS {
+            write!(out, ", refused as {number} {}", self.calls[number])?;
         }
         write!(
             out,

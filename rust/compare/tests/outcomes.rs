@@ -3,21 +3,21 @@
 use baseline::Pace;
 use compare::library::{Library, Plain};
 use compare::options::Options;
-use compare::outcomes::{Outcomes, REFUSALS};
+use compare::outcomes::{Numbers, Outcomes, REFUSALS};
 use compare::run::run;
 use simulator::Answer;
 use std::process::Command;
 
 /// Outcomes that have all come up once.
 fn all() -> Outcomes {
-    let once = [1; REFUSALS + 1];
+    let once = Numbers::default().map(|_| 1);
     Outcomes { reports: once, calls: once, forced: 1, invocations: 1, attained: 1 }
 }
 
 #[test]
 fn each_outcome_is_missed() {
     assert!(all().missing(true).is_empty());
-    for number in 1..=REFUSALS {
+    for number in REFUSALS {
         let mut without = all();
         without.calls[number] = 0;
         assert_eq!(without.missing(true), [format!("refusal {number}")]);

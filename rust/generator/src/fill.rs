@@ -17,8 +17,9 @@ pub fn load(table: &Table) -> (u64, u64) {
 }
 
 /// Raises budgets at random nodes until the load is `wanted`, or as near
-/// below it as the periods allow. `at_most` bounds each budget by its period.
-pub fn fill(rng: &mut Rng, table: &mut Table, wanted: u64, at_most: impl Fn(u32) -> u32) {
+/// below it as the periods allow. `at_most` bounds each budget by its period
+/// and level.
+pub fn fill(rng: &mut Rng, table: &mut Table, wanted: u64, at_most: impl Fn(u32, u32) -> u32) {
     let hyperperiod = hyperperiod(table);
     let mut room = wanted.saturating_sub(load(table).0);
     // Random raises first, so that the load is spread; then whatever fits.
@@ -42,18 +43,18 @@ fn raise(
     (graph, node): (usize, usize),
     room: u64,
     hyperperiod: u32,
-    at_most: &impl Fn(u32) -> u32,
+    at_most: &impl Fn(u32, u32) -> u32,
     all: bool,
 ) -> u64 {
     let period = table.graphs[graph].period;
     let each = u64::from(hyperperiod / period);
-    let most = at_most(period).min(limits::BUDGET.to);
-    let budget = &mut table.graphs[graph].nodes[node].budget;
-    let fits = (room / each).min(u64::from(most.saturating_sub(*budget))) as u32;
+    let node = &mut table.graphs[graph].nodes[node];
+    let most = at_most(period, node.level).min(limits::BUDGET.to);
+    let fits = (room / each).min(u64::from(most.saturating_sub(node.budget))) as u32;
     if fits == 0 {
         return 0;
     }
     let raise = if all { fits } else { rng.between(1, fits) };
-    *budget += raise;
+    node.budget += raise;
     u64::from(raise) * each
 }

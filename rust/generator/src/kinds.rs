@@ -14,6 +14,7 @@ pub enum Kind {
     LongPeriods,
     FullLoad,
     Overload,
+    TooSlow,
     DeepBacklog,
     ManyInvocations,
     ManyRounds,
@@ -24,12 +25,13 @@ pub enum Kind {
 }
 
 impl Kind {
-    pub const ALL: [Kind; 12] = [
+    pub const ALL: [Kind; 13] = [
         Kind::SmallAndBusy,
         Kind::Wide,
         Kind::LongPeriods,
         Kind::FullLoad,
         Kind::Overload,
+        Kind::TooSlow,
         Kind::DeepBacklog,
         Kind::ManyInvocations,
         Kind::ManyRounds,
@@ -47,6 +49,7 @@ pub fn valid(rng: &mut Rng, kind: Kind) -> Table {
         Kind::LongPeriods => long_periods(rng),
         Kind::FullLoad => full_load(rng),
         Kind::Overload => overload(rng),
+        Kind::TooSlow => too_slow(rng),
         Kind::DeepBacklog => deep_backlog(rng),
         Kind::ManyInvocations => many_invocations(rng),
         Kind::ManyRounds => many_rounds(rng),
@@ -126,7 +129,7 @@ fn small_and_busy(rng: &mut Rng) -> Table {
     let bounds = Frame { processors: (1, 3), graphs: (1, 3), nodes: (1, 4), hyperperiod, level: 4 };
     let mut table = frame(rng, &bounds);
     let wanted = part(&table, rng.between(60, 100));
-    fill(rng, &mut table, wanted, |period| period);
+    fill(rng, &mut table, wanted, |period, _| period);
     small_offsets(rng, &mut table);
     table
 }
@@ -136,7 +139,7 @@ fn wide(rng: &mut Rng) -> Table {
     let bounds = Frame { processors: (4, 8), graphs: (3, 8), nodes: (1, 16), hyperperiod, level: 4 };
     let mut table = frame(rng, &bounds);
     let wanted = part(&table, rng.between(20, 100));
-    fill(rng, &mut table, wanted, |period| period);
+    fill(rng, &mut table, wanted, |period, _| period);
     small_offsets(rng, &mut table);
     table
 }
@@ -147,7 +150,7 @@ fn long_periods(rng: &mut Rng) -> Table {
     let bounds = Frame { processors: (1, 8), graphs: (1, 6), nodes: (1, 6), hyperperiod, level: 4 };
     let mut table = frame(rng, &bounds);
     let wanted = part(&table, rng.between(30, 100));
-    fill(rng, &mut table, wanted, |period| period);
+    fill(rng, &mut table, wanted, |period, _| period);
     table.rounds = rng.between(1, 3);
     if rng.once_in(2) {
         small_offsets(rng, &mut table);
@@ -163,7 +166,7 @@ fn full_load(rng: &mut Rng) -> Table {
     let wanted = load(&table).1;
     // Budgets beyond the period where the level lets server jobs overlap.
     let above = rng.between(1, 2);
-    fill(rng, &mut table, wanted, |period| period * above);
+    fill(rng, &mut table, wanted, |period, level| period * above.min(level));
     small_offsets(rng, &mut table);
     table
 }
@@ -177,35 +180,63 @@ fn overload(rng: &mut Rng) -> Table {
 }
 
 /// Servers that cannot keep up at their level though the load is legal.
-fn deep_backlog(rng: &mut Rng) -> Table {
+fn too_slow(rng: &mut Rng) -> Table {
     let from = if rng.once_in(3) { &MEDIUM[..6] } else { SMALL };
     let hyperperiod = rng.pick(from);
-    let bounds = Frame { processors: (2, 8), graphs: (1, 3), nodes: (1, 8), hyperperiod, level: 1 };
+    let bounds = Frame { processors: (2, 8), graphs: (1, 3), nodes: (1, 8), hyperperiod, level: 2 };
     let mut table = frame(rng, &bounds);
     let wanted = load(&table).1;
     let slow = rng.between(1, 3);
-    fill(rng, &mut table, wanted, |period| period + slow * period.div_ceil(6));
+    fill(rng, &mut table, wanted, |period, level| period * level + slow * period.div_ceil(6));
     small_offsets(rng, &mut table);
     table.rounds = if rng.once_in(2) { 64 } else { rng.between(30, 64) };
     table
 }
 
-/// A chain of servers at level 1, each slower than its period by a little.
+/// Every server keeps up and the load is full, and yet one falls behind by
+/// more than 16 server jobs, or nearly.
 ///
-/// With budget b periods and k nodes, n periods leave n - n / b server jobs
-/// pending and n - n / b^k invocations unfinished: for the values drawn here
-/// 65 invocations often come before 17 server jobs. The clock, a graph with a
-/// longer period, makes the hyperperiod long enough for that many periods.
+/// As many short servers as processors run in the same ticks, and leave all
+/// processors idle in the same ticks. One long server less than that can use
+/// all but one of these, and so gets less than the load counts on: for its
+/// period L it is late by L x idle / (period x long). Then it holds a processor
+/// by its early deadline; the short ones share the one that is left.
+fn deep_backlog(rng: &mut Rng) -> Table {
+    let (processors, period) = rng.pick(&[(2, 3), (2, 4), (3, 2), (3, 3), (4, 2), (5, 2)]);
+    let (busy, long) = (period - 1, processors - 1);
+    let short = Node { budget: busy, level: rng.between(1, 2), after: vec![] };
+    let lists = shapes::lists(rng, processors);
+    let nodes = lists.into_iter().map(|after| Node { after, ..short.clone() }).collect();
+    let short = Graph { period, offset: 0, nodes };
+    // 16 server jobs late, by the way of reckoning above.
+    let late = 16 * period * period * long * processors * busy / (processors * busy - period);
+    let slow_period = late * rng.between(70, 180) / 100 / period * period;
+    let budget = slow_period / period * processors / long;
+    let lists = shapes::lists(rng, long);
+    let nodes = lists.into_iter().map(|after| Node { budget, level: 1, after }).collect();
+    let slow = Graph { period: slow_period, offset: 0, nodes };
+    let graphs = if rng.once_in(2) { vec![short, slow] } else { vec![slow, short] };
+    let mut table = Table { processors, rounds: rng.between(1, 6), graphs };
+    if rng.once_in(3) {
+        small_offsets(rng, &mut table);
+    }
+    table
+}
+
+/// The same with a chain of many short servers that are idle for longer: more
+/// of its invocations are under way, and 65 of them often come before 17
+/// server jobs.
 fn many_invocations(rng: &mut Rng) -> Table {
-    let period = rng.between(7, 16);
-    let count = rng.between(5, 7);
-    let node = |after| Node { budget: period + 1, level: 1, after };
-    let nodes = shapes::chain(count).into_iter().map(node).collect();
-    let slow = Graph { period, offset: rng.between(0, period), nodes };
-    let clock_period = period * rng.between(2, 5);
-    let clock = graph_of_ones(rng, clock_period, 1, 4);
-    let graphs = if rng.once_in(2) { vec![slow, clock] } else { vec![clock, slow] };
-    Table { processors: 8, rounds: rng.between(40, 64), graphs }
+    let count = rng.between(6, 7);
+    let (period, budget) = rng.pick(&[(5, 1), (10, 2), (9, 2), (11, 2)]);
+    let node = |after| Node { budget, level: 1, after };
+    let chain = Graph { period, offset: 0, nodes: shapes::chain(count).into_iter().map(node).collect() };
+    let slow_period = period * rng.between(40, 110);
+    let left = slow_period / period * (2 * period - count * budget);
+    let node = Node { budget: left.min(slow_period), level: 1, after: vec![] };
+    let slow = Graph { period: slow_period, offset: 0, nodes: vec![node] };
+    let graphs = if rng.once_in(2) { vec![chain, slow] } else { vec![slow, chain] };
+    Table { processors: 2, rounds: rng.between(6, 20), graphs }
 }
 
 /// Long chains and slow drifts, so that the state takes many rounds to repeat.
@@ -218,7 +249,7 @@ fn many_rounds(rng: &mut Rng) -> Table {
         graph.nodes.iter_mut().zip(lists).for_each(|(node, after)| node.after = after);
     }
     let wanted = part(&table, rng.between(50, 100));
-    fill(rng, &mut table, wanted, |period| period + 1);
+    fill(rng, &mut table, wanted, |period, level| (period + 1).min(period * level));
     small_offsets(rng, &mut table);
     table.rounds = rng.between(1, 64);
     table
@@ -254,7 +285,7 @@ fn levels(rng: &mut Rng) -> Table {
     let bounds = Frame { processors: (2, 8), graphs: (1, 4), nodes: (1, 3), hyperperiod, level: 4 };
     let mut table = frame(rng, &bounds);
     let wanted = part(&table, rng.between(50, 100));
-    fill(rng, &mut table, wanted, |period| period * 4);
+    fill(rng, &mut table, wanted, |period, _| period * 4);
     for node in table.graphs.iter_mut().flat_map(|graph| graph.nodes.iter_mut().map(|n| (graph.period, n))) {
         // Mostly a level that bears the budget, sometimes one that does not.
         let (period, node) = node;

@@ -49,10 +49,11 @@ const COUNTS: [&[u32]; 10] = [
 ];
 
 pub fn text(rng: &mut Rng) -> Vec<u8> {
-    match rng.below(5) {
+    match rng.below(6) {
         0 => hyperperiod_at_its_limit(rng).text().into_bytes(),
         1 => nodes_at_their_limit(rng).text().into_bytes(),
         2 => load_at_its_limit(rng).text().into_bytes(),
+        3 => pace_at_its_limit(rng).text().into_bytes(),
         _ => value_at_an_end(rng),
     }
 }
@@ -95,10 +96,24 @@ fn nodes_at_their_limit(rng: &mut Rng) -> Table {
 fn load_at_its_limit(rng: &mut Rng) -> Table {
     let mut table = kinds::valid(rng, Kind::SmallAndBusy);
     let all = fill::load(&table).1;
-    fill::fill(rng, &mut table, all, |period| period * 2);
+    fill::fill(rng, &mut table, all, |period, level| period * level.min(2));
     if rng.once_in(2) {
         let graph = rng.below(table.graphs.len());
         table.graphs[graph].nodes[0].budget += 1;
     }
+    table
+}
+
+/// A budget of level times period, or one more, with as many processors as the
+/// load needs.
+fn pace_at_its_limit(rng: &mut Rng) -> Table {
+    let mut table = kinds::valid(rng, Kind::SmallAndBusy);
+    let graph = rng.below(table.graphs.len());
+    let graph = &mut table.graphs[graph];
+    let node = rng.below(graph.nodes.len());
+    let node = &mut graph.nodes[node];
+    node.budget = node.level * graph.period + u32::from(rng.once_in(2));
+    let needed = fill::load(&table).0.div_ceil(u64::from(fill::hyperperiod(&table)));
+    table.processors = (needed as u32).min(8);
     table
 }

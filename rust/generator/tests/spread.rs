@@ -2,10 +2,11 @@
 
 use generator::{Kind, make};
 use simulator::question::{Answered, judge};
-use simulator::{Reply, Table};
+use simulator::reader::read;
+use simulator::{Refusal, Reply, Table};
 use std::collections::BTreeMap;
 
-const SEEDS: u64 = 4_000;
+const SEEDS: u64 = 4_500;
 
 #[test]
 fn a_seed_gives_the_same_table_again() {
@@ -26,7 +27,7 @@ fn every_outcome_is_met() {
         };
         *met.entry(number).or_default() += 1;
     }
-    for number in 0..=8 {
+    for number in (0..=8).chain([12]) {
         assert!(met.get(&number).is_some_and(|&count| count >= 8), "{number} in {met:?}");
     }
     assert!(met[&0] > 1_500, "{met:?}");
@@ -34,7 +35,7 @@ fn every_outcome_is_met() {
 
 #[test]
 fn each_kind_is_what_it_says() {
-    let mut met: BTreeMap<String, [u32; 3]> = BTreeMap::new();
+    let mut met: BTreeMap<String, [u32; 4]> = BTreeMap::new();
     for seed in 0..SEEDS {
         let made = make(seed);
         let counts = met.entry(format!("{:?}", made.kind)).or_default();
@@ -42,12 +43,14 @@ fn each_kind_is_what_it_says() {
         match Answered::new(&made.text).report() {
             Reply::Text(_) => counts[1] += 1,
             Reply::Refused { number: 7, .. } => counts[2] += 1,
+            Reply::Refused { number: 12, .. } => counts[3] += 1,
             Reply::Refused { .. } => {}
         }
     }
     assert_eq!(met.len(), Kind::ALL.len(), "{met:?}");
     assert!(met["DeepBacklog"][2] >= 30, "{met:?}");
     assert!(met["ManyInvocations"][2] >= 30, "{met:?}");
+    assert!(met["TooSlow"][3] >= 100, "{met:?}");
     for kind in ["SmallAndBusy", "Wide", "LongPeriods", "FullLoad", "ManyRounds", "Offsets", "Levels"] {
         assert!(met[kind][1] * 3 >= met[kind][0], "{kind}: {met:?}");
     }
@@ -77,4 +80,22 @@ fn the_corners_are_met() {
         t.graphs.iter().any(|g| t.graphs.iter().any(|other| g.offset > other.period && other.offset == 0))
     };
     assert!(count(late_offset) > 50);
+}
+
+/// Tables that pass all before 12, with a budget just at level times period;
+/// and such with one tick more.
+#[test]
+fn both_sides_of_keeping_up_are_met() {
+    let above = |more: u32| {
+        let met = |seed: &u64| {
+            let Ok(table) = read(&make(*seed).text) else { return false };
+            let nodes = table.graphs.iter().flat_map(|g| g.nodes.iter().map(|n| (n, n.level * g.period)));
+            let highest = nodes.map(|(node, most)| i64::from(node.budget) - i64::from(most)).max();
+            highest == Some(i64::from(more))
+                && !matches!(judge(&make(*seed).text), Err(Refusal { number: 5 | 6, .. }))
+        };
+        (0..SEEDS).filter(met).count()
+    };
+    assert!(above(0) > 200, "{}", above(0));
+    assert!(above(1) > 50, "{}", above(1));
 }

@@ -46,15 +46,28 @@ fn refusals_as_values() {
 
 /// The list that the build script made of the header's.
 #[test]
-fn reasons_are_numbered_from_one_on() {
-    assert!(Reason::ALL.len() >= 10);
-    for (number, &reason) in (1..).zip(Reason::ALL) {
-        assert_eq!(reason.number(), number);
-        assert_eq!(Reason::of_number(number), Some(reason));
+fn reasons_are_in_the_order_of_their_numbers() {
+    assert!(Reason::ALL.len() >= 11);
+    let mut before = 0;
+    for &reason in Reason::ALL {
+        assert!(reason.number() > before, "{reason:?}");
+        before = reason.number();
+        assert_eq!(Reason::of_number(reason.number()), Some(reason));
         assert!(reason.sentence().len() > 20, "{reason:?}");
     }
     assert_eq!(Reason::of_number(0), None);
-    assert_eq!(Reason::of_number(Reason::ALL.len() as u32 + 1), None);
+    assert_eq!(Reason::of_number(before + 1), None);
+}
+
+/// Document 02, R-2: 3 ticks in every 2 and no overlap.
+#[test]
+fn a_node_that_cannot_keep_up() {
+    let table =
+        b"processors=2\nrounds=64\ngraphs=1\nperiod=2\noffset=0\nnodes=1\nbudget=3\nlevel=1\nafter=none\n";
+    for refusal in [report_of(table).unwrap_err(), row_at(table, 0).unwrap_err()] {
+        assert_eq!((refusal.reason, refusal.reason.number(), refusal.line), (Reason::CannotKeepUp, 12, 0));
+        assert!(refusal.to_string().starts_with("refusal 12: a node can never keep up"), "{refusal}");
+    }
 }
 
 /// The header is the home of the version.

@@ -1,12 +1,12 @@
 //! The independent second simulator of the timing sheet.
 //!
-//! It is written from the text of document 01 alone: absolute instants, server
-//! job numbers, job numbers and whole histories. There is no window, and no
-//! relative state except the state at boundaries, formed as the document
+//! It is written from the text of documents 01 and 02 alone: absolute instants,
+//! server job numbers, job numbers and whole histories. There is no window, and
+//! no relative state except the state at boundaries, formed as document 01
 //! writes it. Rule numbers in comments are those of its section "The schedule".
 //!
 //! - `limits`, `table`, `reader`: the table and how its bytes are read;
-//! - `load`: the hyperperiod and the load;
+//! - `load`: the hyperperiod, the load, and nodes that cannot keep up;
 //! - `schedule`: rules 1 to 6 over whole histories (`history`);
 //! - `state`, `walk`: the state at a boundary and where the walk stops;
 //! - `reply`, `text`: answers, refusals and the lent buffer;

@@ -1,10 +1,11 @@
-//! The hyperperiod and the load: refusals 5 and 6.
+//! The hyperperiod, the load, and whether each node keeps up: refusals 5, 6
+//! and 12.
 
 use crate::limits;
 use crate::reply::Refusal;
 use crate::table::Table;
 
-/// The hyperperiod of a table that passes 5 and 6.
+/// The hyperperiod of a table that passes 5, 6 and 12, in that order.
 pub fn judge(table: &Table) -> Result<u32, Refusal> {
     let hyperperiod = hyperperiod(table);
     if hyperperiod > u128::from(limits::HYPERPERIOD) {
@@ -12,6 +13,9 @@ pub fn judge(table: &Table) -> Result<u32, Refusal> {
     }
     if load(table, hyperperiod) > u128::from(table.processors) * hyperperiod {
         return Err(Refusal { number: 6, line: 0 });
+    }
+    if !keeps_up(table) {
+        return Err(Refusal { number: 12, line: 0 });
     }
     Ok(hyperperiod as u32)
 }
@@ -32,6 +36,15 @@ pub fn load(table: &Table, hyperperiod: u128) -> u128 {
         budgets * (hyperperiod / u128::from(graph.period))
     };
     table.graphs.iter().map(of_graph).sum()
+}
+
+/// Document 02, R-2: each node's budget is at most its level times its period.
+pub fn keeps_up(table: &Table) -> bool {
+    let each = |graph: &crate::table::Graph| {
+        let most = |level: u32| u64::from(level) * u64::from(graph.period);
+        graph.nodes.iter().all(|node| u64::from(node.budget) <= most(node.level))
+    };
+    table.graphs.iter().all(each)
 }
 
 fn greatest_common_divisor(first: u128, second: u128) -> u128 {

@@ -30,7 +30,7 @@ pub fn row(table: &[u8], instant: u64) -> Reply {
     }
 }
 
-/// A table that passes refusals 1 to 6, and its hyperperiod.
+/// A table that passes refusals 1 to 6 and 12, and its hyperperiod.
 pub fn judge(bytes: &[u8]) -> Result<(Table, u32), Refusal> {
     let table = reader::read(bytes)?;
     let hyperperiod = load::judge(&table)?;

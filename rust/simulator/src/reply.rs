@@ -1,6 +1,7 @@
 //! Replies, refusals, and what a call with a lent buffer returns and leaves.
 
-/// A refusal's number and line in document 01's table of refusals.
+/// A refusal's number and line in document 01's table of refusals, or as
+/// document 02 adds them.
 #[derive(Clone, Copy, Debug, PartialEq, Eq)]
 pub struct Refusal {
     pub number: u32,

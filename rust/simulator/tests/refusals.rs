@@ -1,8 +1,8 @@
-//! Refusals 5 to 10: each exactly under its condition, and in their order.
+//! Refusals 5 to 10 and 12: each exactly under its condition, and in their order.
 
 mod common;
 use common::*;
-use simulator::{Answer, Reply, lend, report, row};
+use simulator::{Answer, Graph, Node, Reply, lend, report, row};
 
 #[test]
 fn hyperperiod_at_its_limit_and_past_it() {
@@ -38,6 +38,35 @@ fn load_at_its_limit_and_past_it() {
         report(&bytes(8, 64, vec![chain(1, 0, &[10_000; 16]), chain(1, 0, &[10_000; 16])])),
         refused(6, 0)
     );
+}
+
+/// One node on so many processors.
+fn one(processors: u32, period: u32, budget: u32, level: u32) -> Vec<u8> {
+    let node = Node { budget, level, after: vec![] };
+    bytes(processors, 64, vec![Graph { period, offset: 0, nodes: vec![node] }])
+}
+
+#[test]
+fn budget_at_level_times_period_and_past_it() {
+    for level in 1..=4 {
+        let budget = 6 * level;
+        assert!(matches!(report(&one(8, 6, budget, level)), Reply::Text(_)), "{level}");
+        assert_eq!(report(&one(8, 6, budget + 1, level)), refused(12, 0), "{level}");
+        assert_eq!(row(&one(8, 6, budget + 1, level), 0), refused(12, 0), "{level}");
+    }
+    // Any node counts: here node 2 of graph 2.
+    let second = bytes(3, 64, vec![chain(4, 0, &[1]), chain(2, 0, &[1, 3])]);
+    assert_eq!(report(&second), refused(12, 0));
+}
+
+#[test]
+fn five_then_six_then_twelve() {
+    // 5 and 12 hold; 6 and 12 hold.
+    let five = bytes(8, 64, vec![chain(10_000, 0, &[1]), chain(6_667, 0, &[6_668])]);
+    assert_eq!(report(&five), refused(5, 0));
+    assert_eq!(row(&five, 0), refused(5, 0));
+    assert_eq!(report(&one(1, 2, 3, 1)), refused(6, 0));
+    assert_eq!(row(&one(1, 2, 3, 1), 0), refused(6, 0));
 }
 
 #[test]

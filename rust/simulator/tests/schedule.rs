@@ -41,12 +41,19 @@ fn unlinked_server_job_keeps_its_processor() {
     assert_eq!(report(&table), figures(2, 8, &[6, 3]));
 }
 
-/// Two server jobs of one server run side by side at level 2, not at level 1.
+/// Two server jobs of one server run side by side at level 2, not at level 1:
+/// there the second waits, though a processor is idle.
 #[test]
 fn level_lets_server_jobs_overlap() {
-    let graph = |level| Graph { period: 2, offset: 0, nodes: vec![Node { budget: 3, level, after: vec![] }] };
-    assert_eq!(row(&bytes(2, 64, vec![graph(2)]), 2), text("run=1,1,1,1\nrun=1,1,2,2\n"));
-    assert_eq!(row(&bytes(2, 64, vec![graph(1)]), 2), text("run=1,1,1,1\n"));
+    let graph =
+        |budget, level| Graph { period: 2, offset: 0, nodes: vec![Node { budget, level, after: vec![] }] };
+    assert_eq!(row(&bytes(2, 64, vec![graph(3, 2)]), 2), text("run=1,1,1,1\nrun=1,1,2,2\n"));
+    // Graphs 1 and 2 take both processors in tick 0, so graph 3 is late by one.
+    let table = bytes(2, 64, vec![chain(4, 0, &[1]), chain(4, 0, &[1]), graph(2, 1)]);
+    assert_eq!(row(&table, 0), text("run=3,1,1,1\nrun=1,1,1,1\n"));
+    let late = bytes(2, 64, vec![chain(2, 0, &[1]), chain(2, 0, &[1]), graph(2, 1)]);
+    assert_eq!(row(&late, 1), text("run=3,1,1,1\n"));
+    assert_eq!(row(&late, 2), text("run=3,1,1,1\nrun=1,1,2,2\n"));
 }
 
 /// Boundary 0 lies at the largest offset; nothing runs before a release.
@@ -68,23 +75,35 @@ fn chain_takes_a_period_for_each_node() {
     }
 }
 
-/// The instant of the stop.
+/// How many rows there are before the stop.
 fn stop_of(table: &[u8]) -> u32 {
     Answered::new(table).ticks().expect("a table that is walked")
 }
 
+/// A seventeenth pending server job of one server: every node keeps up and the
+/// load fits, and yet. The short nodes leave both processors idle in the same
+/// ticks; the long one can use but one of them, is late, and then holds a
+/// processor by its early deadline while the short ones need it.
+#[test]
+fn backlog_of_server_jobs() {
+    let chained = bytes(2, 64, vec![chain(3, 0, &[2, 2]), chain(546, 0, &[364])]);
+    assert_eq!(report(&chained), refused(7, 0));
+    assert_eq!(stop_of(&chained), 729);
+    // Rows before the stop are given.
+    assert_eq!(row(&chained, 2), text("run=2,1,1,1\n"));
+    assert!(matches!(row(&chained, 728), simulator::Reply::Text(_)));
+    assert_eq!(row(&chained, 729), refused(9, 0));
+    let short = || chain(5, 0, &[2]);
+    let beside = bytes(2, 64, vec![chain(1_000, 0, &[800]), short(), short(), short()]);
+    assert_eq!(report(&beside), refused(7, 0));
+    assert_eq!(stop_of(&beside), 3_450);
+}
+
 /// More than 64 unfinished invocations is backlog, though no server has more
-/// than 16 pending jobs. With a processor for each, servers of level 1 run
-/// alike whatever else there is: a lone one meets its own backlog later than
-/// the chain of seven meets that of its invocations.
+/// than 16 pending jobs: a chain of six that falls behind as above.
 #[test]
 fn backlog_of_invocations() {
-    let with_clock = |budgets: &[u32]| bytes(8, 64, vec![chain(10, 0, budgets), chain(30, 0, &[1])]);
-    let (lone, seven) = (with_clock(&[11]), with_clock(&[11; 7]));
-    assert_eq!(report(&lone), refused(7, 0));
-    assert_eq!(report(&seven), refused(7, 0));
-    // The lone server at 10 n has n + 1 released and floor(10 n / 11) complete:
-    // 17 pending first at n = 166.
-    assert_eq!(stop_of(&lone), 1_660);
-    assert!(stop_of(&seven) < stop_of(&lone), "{}", stop_of(&seven));
+    let table = bytes(2, 64, vec![chain(800, 0, &[640]), chain(10, 0, &[2; 6])]);
+    assert_eq!(report(&table), refused(7, 0));
+    assert_eq!(stop_of(&table), 6_140);
 }

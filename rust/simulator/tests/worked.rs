@@ -1,4 +1,5 @@
-//! Every worked table of document 01, starred or not, with its rows.
+//! Every worked table of document 01, starred or not, with its rows, as
+//! document 02 leaves them: R-2 changed that of budget 3, level 1.
 
 mod common;
 use common::*;
@@ -71,14 +72,12 @@ fn budget_above_the_period_at_level_two() {
 
 #[test]
 fn budget_above_the_period_at_level_one() {
-    assert_eq!(report(&three_in_two(1, 46)), refused(8, 0));
-    assert_eq!(report(&three_in_two(1, 47)), refused(7, 0));
-    // The backlog is met at instant 92: the last row is at 91.
-    assert_eq!(row(&three_in_two(1, 47), 91), text("run=1,1,31,31\n"));
-    assert_eq!(row(&three_in_two(1, 47), 92), refused(9, 0));
-    // Boundary 46 is at 92 too, and its test comes first.
-    assert_eq!(row(&three_in_two(1, 46), 91), text("run=1,1,31,31\n"));
-    assert_eq!(row(&three_in_two(1, 46), 92), refused(9, 0));
+    for rounds in [1, 46, 47, 64] {
+        assert_eq!(report(&three_in_two(1, rounds)), refused(12, 0));
+        for instant in [0, 91, 92] {
+            assert_eq!(row(&three_in_two(1, rounds), instant), refused(12, 0));
+        }
+    }
 }
 
 #[test]

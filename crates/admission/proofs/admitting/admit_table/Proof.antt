@@ -29,6 +29,9 @@ refused-requires-2 c κs = search needs
 enum-told-3 : tie.Need-enum-told-3
 enum-told-3 c = search needs
 
+admit-loadable-requires : tie.Need-admit-loadable-requires
+admit-loadable-requires c κs = search needs
+
 returns : tie.Need-returns
 returns c =
     let e = sym (c .before .enum-told .given .1) ∙ c .before .before .before .hyperperiod-of .ensures in
@@ -42,9 +45,9 @@ returns-2 c =
 
 returns-3 : tie.Need-returns-3
 returns-3 c =
-    let e = sym (c .before .before .before .before .h .given .1) ∙ c .before .before .before .before .before .before .hyperperiod-of .ensures in
-    let f = sym (c .enum-told3 .given .1) ∙ c .before .before .load-room .ensures in
-    rw (← e, ← f)
+    let e = sym (c .before .before .before .before .before .h .given .1) ∙ c .before .before .before .before .before .before .before .hyperperiod-of .ensures in
+    let f = sym (c .before .enum-told3 .given .1) ∙ c .before .before .before .load-room .ensures in
+    rw (← e, ← f) (c .admit-loadable .ensures)
 
 pub admit-table-spec : {M : Type 1} → statement M
 admit-table-spec =
@@ -58,6 +61,7 @@ admit-table-spec =
     enum-told-2
     refused-requires-2
     enum-told-3
+    admit-loadable-requires
     returns
     returns-2
     returns-3)
