@@ -1,7 +1,7 @@
--- The ten refusals: document 01's number and line for every case of the enum.
+-- The refusals: the documents' number and line for every case of the enum. 1 to 10 are document 01's, the rest document 02's.
 use Prim.Native.Nat.{ℕ}
 use Rattle.format.specs.declared.Refusal.{Refusal}
-use Rattle.format.specs.declared.Refusal.the-variants.{TooLong, Misspelled, OutsideLimits, AgainstPredecessorRules, LongHyperperiod, NotLoadable, Backlog, Unsettled, PastTheStop, ShortBuffer}
+use Rattle.format.specs.declared.Refusal.the-variants.{TooLong, Misspelled, OutsideLimits, AgainstPredecessorRules, LongHyperperiod, NotLoadable, Backlog, Unsettled, PastTheStop, ShortBuffer, WrongLengths}
 
 abbrev pub numberOf : Refusal → ℕ
 numberOf TooLong = 1
@@ -14,6 +14,7 @@ numberOf Backlog = 7
 numberOf Unsettled = 8
 numberOf PastTheStop = 9
 numberOf ShortBuffer = 10
+numberOf WrongLengths = 11
 
 abbrev pub lineOf : Refusal → ℕ
 lineOf TooLong = 0
@@ -26,3 +27,4 @@ lineOf Backlog = 0
 lineOf Unsettled = 0
 lineOf PastTheStop = 0
 lineOf ShortBuffer = 0
+lineOf WrongLengths = 0

@@ -1,6 +1,6 @@
 // The text of a table, and reading it: specs/. This crate has no code.
 
-// Document 01's ten refusals. `numberOf` and `lineOf` of specs/Refusals.antt give the number and the line of each.
+// The refusals: document 01's ten, then those of document 02 by their numbers. `numberOf` and `lineOf` of specs/Refusals.antt give the number and the line of each.
 pub enum Refusal {
     TooLong,
     Misspelled { line: u32 },
@@ -12,4 +12,5 @@ pub enum Refusal {
     Unsettled,
     PastTheStop,
     ShortBuffer,
+    WrongLengths,
 }

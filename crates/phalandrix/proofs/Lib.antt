@@ -1,2 +1,4 @@
 pub mod Printed
 pub mod AfterRead
+pub mod Batches
+pub mod Kept

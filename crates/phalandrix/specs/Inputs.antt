@@ -9,6 +9,8 @@ use Rattle.phalandrix.specs.declared.input.Input.{Input}
 use Rattle.phalandrix.specs.declared.input.Input.the-variants as Input
 use Rattle.phalandrix.specs.declared.input.Progress.{Progress}
 use Rattle.phalandrix.specs.declared.input.Progress.the-variants as Progress
+use Rattle.phalandrix.specs.declared.input.Taken.{Taken}
+use Rattle.phalandrix.specs.declared.input.Taken.the-variants as Taken
 use Rattle.phalandrix.specs.declared.input.Reading.{Reading}
 use Rattle.phalandrix.specs.declared.input.Reading.the-variants.{More, Ended, Failed}
 
@@ -38,6 +40,12 @@ abbrev pub Within : ℕ → Input → Type 0
 Within room (Input.Bytes n) = n ≤ room
 Within room Input.Failed = Unit {0}
 
+-- no more than the room holds
+abbrev pub Kept : ℕ → Taken → Type 0
+Kept room (Taken.Whole n) = n ≤ room
+Kept room Taken.Wrong = Unit {0}
+Kept room Taken.Failed = Unit {0}
+
 -- behind `done` bytes: a byte more at least, and none past the room
 abbrev pub Further : ℕ → ℕ → Progress → Type 0
 Further done room (Progress.On n) = (0 < n) × (done + n ≤ room)
@@ -46,3 +54,7 @@ Further done room (Progress.Over input) = Within room input
 -- the first n bytes of the room are the input, as far as the room goes
 abbrev pub Holds : List ℕ → List ℕ → ℕ → Type 0
 Holds input room n = take n room ≡ take (length room) input
+
+-- a piece of an input
+abbrev pub pieceBytes : ℕ
+pieceBytes = 512

@@ -1,8 +1,11 @@
 // Reading an input.
 ghost use mathlib.Core.Path.{_≡_};
-ghost use Prim.Native.Nat.{_≤_};
+ghost use Prim.Native.Nat.{_≤_, min};
 ghost use lib.ListN.{length};
-ghost use Rattle.phalandrix.specs.Inputs.{afterRead, Read, inputAfter, Further, Within};
+ghost use Rattle.phalandrix.specs.Inputs.{afterRead, Read, inputAfter, Further, Within, Kept, pieceBytes};
+
+// A piece of an input.
+pub const PIECE: usize = 512;
 
 // What one read comes to: so many bytes more, the end, or a failure.
 pub enum Reading {
@@ -21,6 +24,13 @@ pub enum Input {
 pub enum Progress {
     On(usize),
     Over(Input),
+}
+
+// So many bytes of an input: kept, as far as there is room for them; fewer are there, or more than the limit; or a read has failed.
+pub enum Taken {
+    Whole(usize),
+    Wrong,
+    Failed,
 }
 
 // After a read into `part` that returned `got`.
@@ -77,4 +87,83 @@ pub fn read_input(fd: i32, space: &mut [u8]) -> Input
         }
     }
     Input::Bytes(done)
+}
+
+// Fills the space, or tells that the input ended before.
+pub fn fill(fd: i32, space: &mut [u8]) -> Taken
+    ensures { λ r. ⌜ Kept (length (now (space .entry))) r ⌝ }
+{
+    let n = space.len();
+    match read_input(fd, space) {
+        Input::Failed => Taken::Failed,
+        Input::Bytes(m) => { if m < n { Taken::Wrong } else { Taken::Whole(n) } }
+    }
+}
+
+// Nothing follows.
+pub fn at_end(fd: i32) -> Taken {
+    let mut byte = [0u8; 1];
+    match read_input(fd, &mut byte) {
+        Input::Failed => Taken::Failed,
+        Input::Bytes(n) => {
+            if n == 0 {
+                Taken::Whole(0)
+            } else {
+                Taken::Wrong
+            }
+        }
+    }
+}
+
+pub fn least(a: usize, b: usize) -> usize
+    ensures { λ r. ⌜ r ≡ min a b ⌝ }
+{
+    if a < b { a } else { b }
+}
+
+// Bytes that nobody needs: a piece of them, and all.
+pub fn skip_piece(fd: i32, n: usize) -> Taken
+    requires { ⌜ n ≤ pieceBytes ⌝ }
+{
+    let mut piece = [0u8; PIECE];
+    fill(fd, &mut piece[..n])
+}
+
+pub fn skip(fd: i32, n: usize) -> Taken {
+    let mut left = n;
+    while left > 0 {
+        let k = least(left, PIECE);
+        match skip_piece(fd, k) {
+            Taken::Whole(_) => {
+                left -= k;
+            }
+            Taken::Wrong => {
+                return Taken::Wrong;
+            }
+            Taken::Failed => {
+                return Taken::Failed;
+            }
+        }
+    }
+    Taken::Whole(0)
+}
+
+// The next table of an input, of that length. Of one that is longer than the room, what does not fit is passed over: a room past the limit of a
+// table's bytes holds enough to refuse it.
+pub fn take_table(fd: i32, bytes: usize, room: &mut [u8]) -> Taken
+    ensures { λ r. ⌜ Kept (length (now (room .entry))) r ⌝ }
+{
+    let size = room.len();
+    if bytes <= size {
+        return fill(fd, &mut room[..bytes]);
+    }
+    match fill(fd, room) {
+        Taken::Whole(n) => match skip(fd, bytes - size) {
+            Taken::Whole(_) => Taken::Whole(n),
+            Taken::Wrong => Taken::Wrong,
+            Taken::Failed => Taken::Failed,
+        },
+        Taken::Wrong => Taken::Wrong,
+        Taken::Failed => Taken::Failed,
+    }
 }

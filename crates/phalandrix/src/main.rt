@@ -1,15 +1,22 @@
-// The program: a table on standard input; on standard output its report or, with `row T`, its row at instant T.
+// The program: a table on standard input; on standard output its report or, with `row T`, its row at instant T. With `batch` and lengths, tables
+// end to end on standard input, and what is printed for each.
 mod answering;
+mod batching;
 mod input;
 
 use answering::put_answer_to;
 use asking::Asked;
 use asking::Instant;
+use asking::Lengths;
 use asking::Passed;
 use asking::Question;
 use asking::WORD_ROOM;
+use batching::put_batch;
+use format::Refusal;
 use input::Input;
+use input::PIECE;
 use input::Reading;
+use input::Taken;
 use input::after_read;
 use input::read_input;
 use libc::STDERR_FILENO;
@@ -19,9 +26,6 @@ use table::Table;
 
 // One byte more than a table may have: no more is read of a longer one, and that is enough to refuse it.
 const TABLE_ROOM: usize = Table::TABLE_BYTES_TO as usize + 1;
-
-// A piece of the command line.
-const PIECE: usize = 512;
 
 // Each turn reads a byte or more, and Linux allows some 6 million bytes of arguments: the turns do not run out.
 const TURNS: u32 = 0xffff_ffff;
@@ -36,7 +40,7 @@ enum Line {
 fn print_usage() {
     io::write_all(
         STDERR_FILENO,
-        b"usage: phalandrix < TABLE          the report\n       phalandrix row T < TABLE    the row at instant T\n",
+        b"usage: phalandrix < TABLE          the report\n       phalandrix row T < TABLE    the row at instant T\n       phalandrix batch L1 .. Ln < TABLES    the reports of tables end to end, of these lengths\n",
     );
 }
 
@@ -99,11 +103,23 @@ fn instant_asked(i: usize) -> Instant {
     asking::instant_of(&room[..n])
 }
 
-fn question_asked() -> Asked {
+// The lengths that the arguments from 2 on spell.
+fn lengths_asked() -> Lengths {
+    let count = os::arg_count();
+    let mut lengths = asking::no_lengths();
+    let mut i: usize = 2;
+    while i < count {
+        lengths = asking::lengths_on(lengths, instant_asked(i));
+        i += 1;
+    }
+    lengths
+}
+
+fn question_asked(lengths: Lengths) -> Asked {
     let mut room = [0u8; WORD_ROOM];
     let n = os::arg(1, &mut room);
     let instant = instant_asked(2);
-    asking::question_of(os::arg_count(), &room, n, instant)
+    asking::question_of(os::arg_count(), &room, n, instant, lengths)
 }
 
 fn answer(q: Question) {
@@ -118,9 +134,31 @@ fn answer(q: Question) {
     }
 }
 
+fn print_refusal(r: Refusal) {
+    let mut text = io::buffer();
+    let n = writing::refusal_length(r);
+    writing::put_refusal(&mut text, r);
+    print(&text[..n]);
+}
+
+// Each table is read into the same room and answered behind the ones before it; nothing is printed before the input has ended where the lengths say.
+fn answer_batch(lengths: Lengths) {
+    let mut room = [0u8; TABLE_ROOM];
+    let mut text = io::buffer();
+    let count = lengths.count;
+    let list = lengths.list;
+    match put_batch(STDIN_FILENO, count, list, &mut room, &mut text) {
+        Taken::Whole(n) => print(&text[..n]),
+        Taken::Wrong => print_refusal(Refusal::WrongLengths),
+        Taken::Failed => os::fail(b"standard input"),
+    }
+}
+
 fn main() {
-    match question_asked() {
+    let lengths = lengths_asked();
+    match question_asked(lengths) {
         Asked::Answer(q) => answer(q),
+        Asked::Batch => answer_batch(lengths),
         Asked::Usage => print_usage(),
         Asked::Unread => os::fail(b"/proc/self/cmdline"),
     }

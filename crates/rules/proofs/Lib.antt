@@ -1,5 +1,6 @@
 pub mod Computing
 pub mod Cases
+pub mod BatchCases
 pub mod Outcomes
 pub mod ReadWellFormed
 pub mod Printed

@@ -5,7 +5,7 @@ use std::fmt;
 use std::ops::AddAssign;
 
 /// The refusals are numbered from 1 to this.
-pub const REFUSALS: usize = 10;
+pub const REFUSALS: usize = 11;
 
 /// How often each outcome came up.
 #[derive(Clone, Debug, Default, PartialEq, Eq)]
@@ -14,6 +14,8 @@ pub struct Outcomes {
     pub reports: [u64; REFUSALS + 1],
     /// Calls by the number of their answer.
     pub calls: [u64; REFUSALS + 1],
+    /// Calls on several tables.
+    pub batches: u64,
     /// Tables looked at for demand 3.
     pub forced: u64,
     /// Its first half: invocations, none of them above the figure.
@@ -48,6 +50,7 @@ impl AddAssign<&Outcomes> for Outcomes {
         let add = |to: &mut [u64], from: &[u64]| to.iter_mut().zip(from).for_each(|(to, from)| *to += from);
         add(&mut self.reports, &other.reports);
         add(&mut self.calls, &other.calls);
+        self.batches += other.batches;
         self.forced += other.forced;
         self.invocations += other.invocations;
         self.attained += other.attained;
@@ -63,6 +66,7 @@ impl fmt::Display for Outcomes {
         for (number, count) in self.calls.iter().enumerate().skip(1) {
             write!(out, ", refused as {number} {count}")?;
         }
+        write!(out, "; {} calls on several tables", self.batches)?;
         write!(
             out,
             "; demand 3 on {} tables, {} invocations, {} figures attained",
