@@ -7,7 +7,7 @@ use Rattle.schedule.proofs.Walking.{onePassWalk, same-walk}
 use Rattle.format.specs.Bytes.{bytes}
 use Rattle.rules.specs.Admission.{admit, admissionOf}
 use Rattle.rules.specs.Answers.{printed, callOf}
-use Rattle.rules.specs.AnswerNumbers.{answerNumber, answerLineNumber, answerLength}
+use Rattle.rules.specs.AnswerNumbers.{answerNumber, answerLineNumber, answerColumn, answerLength}
 use Rattle.rules.specs.Cases.{AdmissionCase, admissions, replyTo, PrintCase, printCases, CallCase, callCases, lent, AnswerCase, told, answerCases}
 use Rattle.rules.proofs.Computing.{answering}
 
@@ -39,6 +39,6 @@ answers-hold = subst Printed same-walk printed-computed
 pub calls-hold : Called wholeWalk
 calls-hold = subst Called same-walk called-computed
 
-pub numbers-hold : map (λ (c : AnswerCase). told (c .answer) (answerNumber (c .answer)) (answerLineNumber (c .answer)) (answerLength (c .answer))) answerCases ≡ answerCases
+pub numbers-hold : map (λ (c : AnswerCase). told (c .answer) (answerNumber (c .answer)) (answerLineNumber (c .answer)) (answerColumn (c .answer)) (answerLength (c .answer))) answerCases ≡ answerCases
 unfolding answerCases
 numbers-hold = refl

@@ -21,8 +21,8 @@ pub fn report(pace: Pace, table: &[u8], buffer: &mut [u8]) -> Answer {
     let mut engine = Engine::new(&table);
     match walk_at(pace, &mut engine, hyperperiod, None) {
         End::Settled { round } => lend(&writer::report(&engine, round), buffer),
-        End::Unsettled => Answer::refusal(8, 0),
-        End::Backlog | End::Asked => Answer::refusal(7, 0),
+        End::Unsettled => Answer::refusal(8),
+        End::Backlog | End::Asked => Answer::refusal(7),
     }
 }
 
@@ -32,11 +32,11 @@ pub fn row(pace: Pace, table: &[u8], instant: u64, buffer: &mut [u8]) -> Answer 
         Err(refusal) => return refusal,
     };
     // No walk reaches an instant that needs more than 32 bits.
-    let Ok(asked) = u32::try_from(instant) else { return Answer::refusal(9, 0) };
+    let Ok(asked) = u32::try_from(instant) else { return Answer::refusal(9) };
     let mut engine = Engine::new(&table);
     match walk_at(pace, &mut engine, hyperperiod, Some(asked)) {
         End::Asked => lend(&writer::row(&engine), buffer),
-        _ => Answer::refusal(9, 0),
+        _ => Answer::refusal(9),
     }
 }
 
@@ -50,9 +50,9 @@ fn walk_at(pace: Pace, engine: &mut Engine, hyperperiod: u32, asked: Option<u32>
 /// Refusals 1 to 6.
 fn judge(bytes: &[u8]) -> Result<(Table, u32), Answer> {
     let table = crate::reader::read(bytes)?;
-    let hyperperiod = table.hyperperiod().ok_or(Answer::refusal(5, 0))?;
+    let hyperperiod = table.hyperperiod().ok_or(Answer::refusal(5))?;
     if !table.is_loadable(hyperperiod) {
-        return Err(Answer::refusal(6, 0));
+        return Err(Answer::refusal(6));
     }
     Ok((table, hyperperiod))
 }
@@ -61,10 +61,10 @@ fn judge(bytes: &[u8]) -> Result<(Table, u32), Answer> {
 fn lend(text: &Text, buffer: &mut [u8]) -> Answer {
     let text = text.bytes();
     match buffer.get_mut(..text.len()) {
-        None => Answer::refusal(10, 0),
+        None => Answer::refusal(10),
         Some(part) => {
             part.copy_from_slice(text);
-            Answer { number: 0, line: 0, length: text.len() }
+            Answer { number: 0, line: 0, column: 0, length: text.len() }
         }
     }
 }

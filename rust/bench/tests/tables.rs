@@ -18,7 +18,7 @@ fn the_largest_walks_are_the_largest() {
     }
     let Reply::Text(text) = report(&largest()[0].text) else { panic!("no answer") };
     assert!(text.starts_with(b"answer=0\nround=64\nticks=1290000\n"));
-    assert_eq!(report(&largest()[1].text), Reply::Refused { number: 8, line: 0 });
+    assert_eq!(report(&largest()[1].text), Reply::Refused { number: 8, line: 0, column: 0 });
 }
 
 #[test]
