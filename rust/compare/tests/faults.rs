@@ -112,7 +112,7 @@ fn wrong_row_at_one_instant() {
 fn refusal_given_too_often() {
     let (table, _) = found(|_, table, _, answer| {
         let twelve = table.windows(9).any(|part| part == b"period=12");
-        if twelve { Answer { number: 6, line: 0, length: 0 } } else { answer }
+        if twelve { Answer { number: 6, line: 0, column: 0, length: 0 } } else { answer }
     });
     assert!(table.contains("period=12"), "{table}");
     assert!(table.lines().count() <= 9, "{table}");
