@@ -26,13 +26,14 @@
 extern "C" {
 #endif
 
-#define PHALANDRIX_VERSION "0.1.0"
+#define PHALANDRIX_VERSION "0.2.0"
 
-/* number 0, line 0 and the length of the text; or the number of a refusal, its line (0 where it has
- * none) and length 0. */
+/* number, line and column 0 and the length of the text; or the number of a refusal, its line and its
+ * column (0 where it has none; columns are counted in bytes from 1) and length 0. */
 typedef struct phalandrix_answer {
     uint32_t number;
     uint32_t line;
+    uint32_t column;
     size_t length;
 } phalandrix_answer;
 

@@ -24,14 +24,22 @@ static void expect(const char *name, phalandrix_answer a, const uint8_t *buffer,
                    uint32_t number, uint32_t line, const char *text)
 {
     size_t length = strlen(text);
-    int fine = a.number == number && a.line == line && a.length == length
+    int fine = a.number == number && a.line == line && (line != 0 || a.column == 0) && a.length == length
         && memcmp(buffer, text, length) == 0;
 
     for (size_t i = length; i < ROOM; i++)
         fine = fine && buffer[i] == UNTOUCHED;
     if (!fine) {
-        printf("%s: number %u (%s), line %u, length %zu\n", name, (unsigned)a.number,
-               phalandrix_sentence(a.number), (unsigned)a.line, a.length);
+        printf("%s: number %u (%s), line %u, column %u, length %zu\n", name, (unsigned)a.number,
+               phalandrix_sentence(a.number), (unsigned)a.line, (unsigned)a.column, a.length);
+        failures++;
+    }
+}
+
+static void expect_column(const char *name, phalandrix_answer a, uint32_t column)
+{
+    if (a.column != column) {
+        printf("%s: column %u\n", name, (unsigned)a.column);
         failures++;
     }
 }
@@ -68,6 +76,10 @@ int main(void)
     expect("report of no bytes", report_in(b, "", ROOM), b, PHALANDRIX_MISSPELLED, 1, "");
     expect("report past a limit", report_in(b, "processors=1\nrounds=0\n", ROOM), b,
            PHALANDRIX_OUTSIDE_LIMITS, 2, "");
+    expect_column("column of no bytes", report_in(b, "", ROOM), 1);
+    expect_column("column of a number", report_in(b, "processors=1\nrounds=65\n", ROOM), 8);
+    expect_column("column of a leading zero", report_in(b, "processors=01\n", ROOM), 13);
+    expect_column("column of a line cut off", report_in(b, "processors=1\nroun", ROOM), 5);
     expect("report of a node that cannot keep up", report_in(b, too_slow, ROOM), b,
            PHALANDRIX_CANNOT_KEEP_UP, 0, "");
     expect("row at 4", row_in(b, 4, ROOM), b, PHALANDRIX_ANSWERED, 0, row);

@@ -27,10 +27,11 @@ fn print_field(name: &[u8], v: u32, end: &[u8]) {
     io::write_all(STDOUT_FILENO, end);
 }
 
-// A refusal's number and line.
+// A refusal's number, line and column.
 fn print_refusal(f: Refusal, between: &[u8]) {
     print_field(b"answer=", writing::number_of(f), between);
-    print_field(b"line=", writing::line_of(f), b"\n");
+    print_field(b"line=", writing::line_of(f), between);
+    print_field(b"column=", writing::column_of(f), b"\n");
 }
 
 fn print_text(buffer: &[u8], n: usize) {
@@ -74,7 +75,7 @@ fn print_rows(label: &[u8], table: &[u8]) {
     }
 }
 
-// `answer=0 hyperperiod=` of an admitted table, and else `answer=` with the number and `line=`.
+// `answer=0 hyperperiod=` of an admitted table, and else `answer=` with the number, `line=` and `column=`.
 fn print_admitted(a: Admitted) {
     let verdict = a.verdict;
     match verdict {

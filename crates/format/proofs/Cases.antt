@@ -3,17 +3,17 @@ use mathlib.Core.Path.{_≡_, refl}
 use mathlib.Core.List.{List, [], _∷_, map}
 use mathlib.Core.Option.{Option, none, some}
 use Prim.Native.Nat.{ℕ, suc}
-use lib.ListN.{replicate}
-use Rattle.schedule.specs.Lists.{upTo}
+use lib.ListN.{length, replicate, take}
+use Rattle.schedule.specs.Lists.{numbers, upTo}
 use Rattle.format.specs.declared.Refusal.{Refusal}
 use Rattle.format.specs.declared.Refusal.the-variants.{TooLong, Misspelled, OutsideLimits}
 use Rattle.format.specs.Bytes.{bytes, decimal}
 use Rattle.format.specs.Keys.{key, keys}
 use Rattle.format.specs.Spelling.{number}
 use Rattle.format.specs.Reading.{done, readOf}
-use Rattle.format.specs.Refusals.{numberOf, lineOf}
+use Rattle.format.specs.Refusals.{numberOf, lineOf, columnOf}
 use Rattle.format.specs.Cases as Cases
-use Rattle.format.specs.Cases.{allLines, lines, changed, theTable, refusalOf, LineCase, NodesCase, threeNodes, afterAll, chains, NumberCase, KeyCase, Numbered, numbered}
+use Rattle.format.specs.Cases.{allLines, lines, changed, theTable, refusalOf, LineCase, NodesCase, threeNodes, ListCase, lastList, endsAt, chains, NumberCase, KeyCase, Numbered, numbered}
 use Rattle.format.proofs.Computing.{reading}
 
 abbrev given : LineCase → Option Refusal
@@ -48,23 +48,29 @@ unfolding reading lines
 table-holds = refl
 
 -- each line is needed where it stands, and its LF
-pub absent-hold : map (λ (l : ℕ). refusalOf (readOf (changed l []))) (upTo allLines) ≡ map (λ (l : ℕ). some (Misspelled l)) (upTo allLines)
+pub absent-hold : map (λ (l : ℕ). refusalOf (readOf (changed l []))) (upTo allLines) ≡ map (λ (l : ℕ). some (Misspelled l 1)) (upTo allLines)
 unfolding reading lines
 absent-hold = refl
 
-pub unended-hold : map (λ (l : ℕ). refusalOf (readOf (changed l (Cases.lineOf l)))) (upTo allLines) ≡ map (λ (l : ℕ). some (Misspelled l)) (upTo allLines)
+pub unended-hold : map (λ (l : ℕ). refusalOf (readOf (changed l (Cases.lineOf l)))) (upTo allLines) ≡ map (λ (l : ℕ). some (Misspelled l (suc (length (Cases.lineOf l))))) (upTo allLines)
 unfolding reading lines
 unended-hold = refl
 
 -- 32 nodes are the most of all graphs: of 16, 16 and 1 the third graph's line `nodes` is past it, with line 108
-pub all-nodes-hold : refusalOf (readOf (chains 16 15 1)) ∷ refusalOf (readOf (chains 16 16 1)) ∷ [] ≡ none ∷ some (OutsideLimits 108) ∷ []
+pub all-nodes-hold : refusalOf (readOf (chains 16 15 1)) ∷ refusalOf (readOf (chains 16 16 1)) ∷ [] ≡ none ∷ some (OutsideLimits 108 7) ∷ []
 unfolding reading
 all-nodes-hold = refl
 
 -- and a list of 15 numbers the longest
-pub after-all-holds : refusalOf (readOf afterAll) ≡ none
-unfolding reading
-after-all-holds = refl
+pub lists-hold : map (λ (c : ListCase). refusalOf (readOf (lastList (c .text)))) Cases.lists ≡ map (λ (c : ListCase). c .gives) Cases.lists
+unfolding reading Cases.lists
+lists-hold = refl
+
+-- cut off anywhere, at fault is the byte behind its last; where a line is to begin, that line is absent
+pub cut-off-hold : map (λ (n : ℕ). refusalOf (readOf (take n (changed 0 [])))) (numbers 0 (length (changed 0 [])))
+    ≡ map (λ (n : ℕ). some (endsAt 1 1 (take n (changed 0 [])))) (numbers 0 (length (changed 0 [])))
+unfolding reading lines endsAt
+cut-off-hold = refl
 
 pub numbers-hold : map (λ (c : NumberCase). number (bytes (c .text))) Cases.numberCases ≡ map (λ (c : NumberCase). c .gives) Cases.numberCases
 unfolding reading Cases.numberCases
@@ -75,11 +81,11 @@ unfolding reading Cases.keyCases
 keys-hold = refl
 
 -- an empty table lacks its first line; 4,096 bytes are read, of one more nothing is
-pub bytes-hold : map (λ (n : ℕ). refusalOf (readOf (replicate n 0))) (0 ∷ 4096 ∷ 4097 ∷ []) ≡ some (Misspelled 1) ∷ some (Misspelled 1) ∷ some TooLong ∷ []
+pub bytes-hold : map (λ (n : ℕ). refusalOf (readOf (replicate n 0))) (0 ∷ 4096 ∷ 4097 ∷ []) ≡ some (Misspelled 1 1) ∷ some (Misspelled 1 1) ∷ some TooLong ∷ []
 unfolding reading
 bytes-hold = refl
 
-pub refusals-hold : map (λ (c : Numbered). numbered (c .refusal) (numberOf (c .refusal)) (lineOf (c .refusal))) Cases.refusals ≡ Cases.refusals
+pub refusals-hold : map (λ (c : Numbered). numbered (c .refusal) (numberOf (c .refusal)) (lineOf (c .refusal)) (columnOf (c .refusal))) Cases.refusals ≡ Cases.refusals
 unfolding Cases.refusals
 refusals-hold = refl
 

@@ -3,9 +3,9 @@ use Rattle.schedule.specs.WellFormed.{rising, orderly, followed, allFollowed}
 use Rattle.format.specs.Bytes.{decimalBy, decimal}
 use Rattle.format.specs.Keys.{keys}
 use Rattle.format.specs.Spelling.{text, digits, number, numbersBy, numbers, list}
-use Rattle.format.specs.Reading.{numberLine, afterLine, node, nodesFrom, graphNodes, graph, graphsFrom, table, readOf}
+use Rattle.format.specs.Reading.{numberLine, offendingBy, offending, afterLine, node, nodesFrom, graphNodes, graph, graphsFrom, table, readOf}
 
 -- opened by name where a test is computed
 unfoldable pub reading : Unit {0}
-unfolding rising orderly followed allFollowed decimalBy decimal keys text digits number numbersBy numbers list numberLine afterLine node nodesFrom graphNodes graph graphsFrom table readOf
+unfolding rising orderly followed allFollowed decimalBy decimal keys text digits number numbersBy numbers list numberLine offendingBy offending afterLine node nodesFrom graphNodes graph graphsFrom table readOf
 reading = tt

@@ -1,16 +1,17 @@
 -- Reading a table: the lines one after another, each judged first for its spelling (2), then for its limits (3) or the predecessor rules
--- (4).
-use mathlib.Core.Bool.{Bool, cond}
-use mathlib.Core.List.{List, [], _∷_}
+-- (4). A refusal of these three tells the line, and the column of the byte at fault.
+use mathlib.Core.Bool.{Bool, _&&_, cond}
+use mathlib.Core.List.{List, [], _∷_, tail}
 use Prim.Native.Nat.{ℕ, zero, suc, _+_, _-_}
-use lib.Dec.{leb}
-use lib.ListN.{length}
+use lib.Dec.{leb, ltb}
+use lib.ListN.{length, drop}
 use Rattle.format.specs.declared.Refusal.{Refusal}
 use Rattle.format.specs.declared.Refusal.the-variants.{TooLong, Misspelled, OutsideLimits, AgainstPredecessorRules}
 use Rattle.schedule.specs.Limits as Limits
+use Rattle.format.specs.Bytes.{comma}
 use Rattle.format.specs.Keys as Keys
 use Rattle.format.specs.Keys.{keyAt}
-use Rattle.format.specs.Spelling.{Scan, read, wrong, number, list, line}
+use Rattle.format.specs.Spelling.{Scan, read, wrong, number, next?, list, line}
 use Rattle.schedule.specs.Table.{Node, Graph, Table}
 use Rattle.schedule.specs.WellFormed.{within, orderly, allFollowed}
 
@@ -18,6 +19,14 @@ use Rattle.schedule.specs.WellFormed.{within, orderly, allFollowed}
 pub record Place : Type 0 where
   pub line : ℕ
   pub bytes : List ℕ
+
+-- the column at which `rest` begins, in a line that begins with the bytes s
+abbrev pub columnAt : List ℕ → List ℕ → ℕ
+columnAt s rest = suc (length s - length rest)
+
+-- the column of what has no byte at fault: a missing successor, a line that is absent, bytes after the last line
+abbrev pub firstColumn : ℕ
+firstColumn = 1
 
 -- what reading comes to: a refusal; or a value, and the place after it
 pub data Outcome (A : Type 0) : Type 0 where
@@ -31,18 +40,46 @@ module _ {A B : Type 0} where
   (done a p) and-then f = f a p
 
 module _ {A : Type 0} where
-  -- a scanned line l: refused as 2 where it is spelled wrong, with `unfair` where its value is not fair; else its value
-  abbrev pub judged : (ℕ → Refusal) → (A → Bool) → ℕ → Scan A → Outcome A
-  judged unfair fair l (wrong rest) = refused (Misspelled l)
-  judged unfair fair l (read v rest) = cond (fair v) (done v (record { line = suc l; bytes = rest })) (refused (unfair l))
+  -- the line at place p, scanned: refused as 2 where it is spelled wrong, with the column where the spelling goes wrong; with `unfair` and the
+  -- column `fault` where its value is not fair; else its value
+  abbrev pub judged : (ℕ → ℕ → Refusal) → ℕ → (A → Bool) → Place → Scan A → Outcome A
+  judged unfair fault fair p (wrong rest) = refused (Misspelled (p .line) (columnAt (p .bytes) rest))
+  judged unfair fault fair p (read v rest) =
+      cond (fair v) (done v (record { line = suc (p .line); bytes = rest })) (refused (unfair (p .line) fault))
 
--- the line of key k, whose value is a number within the key's limits
+-- the column of a value's first byte: behind the key's name and `=`
+abbrev pub valueColumn : ℕ → ℕ
+valueColumn k = suc (suc (length (keyAt k .name)))
+
+-- and the bytes from there on, in a line that begins with the bytes s
+abbrev pub valueIn : ℕ → List ℕ → List ℕ
+valueIn k s = drop (suc (length (keyAt k .name))) s
+
+-- the line of key k, whose value is a number within the key's limits; at fault is the number's first digit
 unfoldable pub numberLine : ℕ → Place → Outcome ℕ
-numberLine k p = judged OutsideLimits (within (keyAt k .range)) (p .line) (line (keyAt k .name) number (p .bytes))
+numberLine k p =
+    judged OutsideLimits (valueColumn k) (within (keyAt k .range)) p (line (keyAt k .name) number (p .bytes))
+
+-- a number v of node own's list, at the bytes s, that keeps the rules (it is above the one before it, `last`, and below the node's own) and has
+-- another behind it: then what is at fault is one of the `others`; else it is this. What is no number is at fault itself
+abbrev pub offendingFrom : (ℕ → List ℕ → List ℕ) → ℕ → ℕ → List ℕ → Scan ℕ → List ℕ
+offendingFrom others own last s (wrong rest) = s
+offendingFrom others own last s (read v rest) = let o : List ℕ = others v (tail rest) in cond ((ltb last v && ltb v own) && next? comma rest) o s
+
+-- one number after the other; `most` bounds how many
+unfoldable pub offendingBy : ℕ → ℕ → ℕ → List ℕ → List ℕ
+offendingBy zero own last s = s
+offendingBy (suc most) own last s = offendingFrom (λ v rest. offendingBy most own v rest) own last s (number s)
+
+-- the bytes from the first number on that breaks the rules, in a list that does not keep them; of a `none` out of place all, from its `n` on
+unfoldable pub offending : ℕ → List ℕ → List ℕ
+offending own s = offendingBy (suc (length s)) own 0 s
 
 -- the `after` line of node number own
 unfoldable pub afterLine : ℕ → Place → Outcome (List ℕ)
-afterLine own p = judged AgainstPredecessorRules (orderly own) (p .line) (line (keyAt Keys.after .name) list (p .bytes))
+afterLine own p =
+    let fault : List ℕ = offending own (valueIn Keys.after (p .bytes)) in
+    judged AgainstPredecessorRules (columnAt (p .bytes) fault) (orderly own) p (line (keyAt Keys.after .name) list (p .bytes))
 
 -- node number own of its graph
 unfoldable pub node : ℕ → Place → Outcome Node
@@ -68,8 +105,8 @@ graphNodes total period offset n l p =
     nodesFrom 1 n p and-then λ xs q.
     cond (allFollowed xs)
     (done (record { period = period; offset = offset; nodes = xs }) q)
-    (refused (AgainstPredecessorRules (q .line - 1))) in
-    cond (leb (total + n) (Limits.allNodes .to)) rest (refused (OutsideLimits l))
+    (refused (AgainstPredecessorRules (q .line - 1) firstColumn)) in
+    cond (leb (total + n) (Limits.allNodes .to)) rest (refused (OutsideLimits l (valueColumn Keys.nodes)))
 
 unfoldable pub graph : ℕ → Place → Outcome Graph
 graph total p =
@@ -89,7 +126,7 @@ graphsFrom total (suc left) p =
 module _ {A : Type 0} where
   abbrev pub ended : A → Place → List ℕ → Outcome A
   ended a p [] = done a p
-  ended a p (c ∷ rest) = refused (Misspelled (p .line))
+  ended a p (c ∷ rest) = refused (Misspelled (p .line) firstColumn)
 
 unfoldable pub table : Place → Outcome Table
 table p =

@@ -9,6 +9,7 @@ use Rattle.format.specs.Bytes.{lineFeed}
 use Rattle.format.specs.Keys as Keys
 use Rattle.format.specs.Keys.{keyAt}
 use Rattle.format.specs.Spelling.{Scan, read, wrong, _⟫_, text, number, list, line}
+use Rattle.format.specs.Reading.{valueIn, offending}
 use Rattle.schedule.specs.WellFormed.{within}
 use Rattle.table.specs.declared.Range.{Range}
 use Rattle.table.specs.Limits.{coded}
@@ -17,17 +18,18 @@ use Rattle.lines.specs.declared.judging.Line.the-variants as Line
 use Rattle.lines.specs.declared.judging.ThreeLines.{ThreeLines}
 use Rattle.scanning.specs.Masks.{maskOf, fairList}
 
--- a value and the bytes after the line; the bytes from where the spelling goes wrong; or a value that is not fair
+-- a value and the bytes after the line; the bytes from where the spelling goes wrong; or a value that is not fair, and the bytes from what is at
+-- fault in it
 pub data Judged : Type 0 where
   passed : ℕ → List ℕ → Judged
   misspelled : List ℕ → Judged
-  unfair : Judged
+  unfair : List ℕ → Judged
 
 module _ {A : Type 0} where
   -- the value as code holds it
-  abbrev pub judgeBy : (A → ℕ) → (A → Bool) → Scan A → Judged
-  judgeBy coded fair (wrong rest) = misspelled rest
-  judgeBy coded fair (read v rest) = cond (fair v) (passed (coded v) rest) unfair
+  abbrev pub judgeBy : (A → ℕ) → (A → Bool) → List ℕ → Scan A → Judged
+  judgeBy coded fair fault (wrong rest) = misspelled rest
+  judgeBy coded fair fault (read v rest) = cond (fair v) (passed (coded v) rest) (unfair fault)
 
   -- LF behind a value v; and a value with LF behind it, which is a line without its heading
   abbrev pub closed : A → List ℕ → Scan A
@@ -50,19 +52,19 @@ predecessors = coded (keyAt Keys.after .range)
 abbrev pub lineJudged : ℕ → ℕ → List ℕ → Judged
 lineJudged k own s =
     cond (eqb k Keys.after)
-    (judgeBy maskOf (fairList predecessors own) (line (keyAt k .name) list s))
-    (judgeBy same (within (keyAt k .range)) (line (keyAt k .name) number s))
+    (judgeBy maskOf (fairList predecessors own) (offending own (valueIn k s)) (line (keyAt k .name) list s))
+    (judgeBy same (within (keyAt k .range)) (valueIn k s) (line (keyAt k .name) number s))
 
 abbrev pub judgedOf : List ℕ → Line → Judged
 judgedOf s (Line.Value v p) = passed v (drop p s)
 judgedOf s (Line.Misspelled p) = misspelled (drop p s)
-judgedOf s Line.Unfair = unfair
+judgedOf s (Line.Unfair p) = unfair (drop p s)
 
 -- the position behind a line read at a position; where there was no such line, that position
 abbrev pub after : Line → ℕ → ℕ
 after (Line.Value v p) at = p
 after (Line.Misspelled p) at = at
-after Line.Unfair at = at
+after (Line.Unfair p) at = at
 
 -- three lines of key k and the two behind it, each read behind the one before it
 abbrev pub threeOf : Line → Line → Line → ThreeLines

@@ -7,7 +7,7 @@ use lib.ListN.{drop}
 use Rattle.format.specs.declared.Refusal.{Refusal}
 use Rattle.format.specs.declared.Refusal.the-variants.{Misspelled, OutsideLimits, AgainstPredecessorRules}
 use Rattle.format.specs.Keys as Keys
-use Rattle.format.specs.Reading.{Place, Outcome, refused, done, _and-then_, numberLine, afterLine}
+use Rattle.format.specs.Reading.{Place, columnAt, Outcome, refused, done, _and-then_, numberLine, afterLine}
 use Rattle.scanning.specs.Masks.{maskOf}
 use Rattle.lines.specs.declared.judging.Line.{Line}
 use Rattle.lines.specs.declared.judging.Line.the-variants as Line
@@ -19,14 +19,18 @@ use Rattle.lines.specs.declared.numbering.Three.{Three}
 use Rattle.lines.specs.declared.numbering.ThreeRead.{ThreeRead}
 use Rattle.lines.specs.declared.numbering.ThreeRead.the-variants as ThreeRead
 
--- a line that was read at a place, with its number
-abbrev pub unfairAt : ℕ → ℕ → Refusal
-unfairAt k l = cond (eqb k Keys.after) (AgainstPredecessorRules l) (OutsideLimits l)
+-- a line that was read at a place, with its number and the column of what is at fault
+abbrev pub unfairAt : ℕ → ℕ → ℕ → Refusal
+unfairAt k = cond (eqb k Keys.after) (λ l c. AgainstPredecessorRules l c) (λ l c. OutsideLimits l c)
 
-abbrev pub numberedLine : ℕ → Spot → Line → LineRead
-numberedLine k p (Line.Value v q) = LineRead.Value v (record { line = p .line + 1; at = q })
-numberedLine k p (Line.Misspelled q) = LineRead.Refused (Misspelled (p .line))
-numberedLine k p Line.Unfair = LineRead.Refused (unfairAt k (p .line))
+-- the column of position q of the bytes s, in the line that begins at p
+abbrev pub columnIn : List ℕ → Spot → ℕ → ℕ
+columnIn s p q = columnAt (drop (p .at) s) (drop q s)
+
+abbrev pub numberedLine : List ℕ → ℕ → Spot → Line → LineRead
+numberedLine s k p (Line.Value v q) = LineRead.Value v (record { line = p .line + 1; at = q })
+numberedLine s k p (Line.Misspelled q) = LineRead.Refused (Misspelled (p .line) (columnIn s p q))
+numberedLine s k p (Line.Unfair q) = LineRead.Refused (unfairAt k (p .line) (columnIn s p q))
 
 infixl 20 _then-three_
 -- and three of them, up to the first that is refused
@@ -34,11 +38,11 @@ abbrev pub _then-three_ : LineRead → (ℕ → Spot → ThreeRead) → ThreeRea
 (LineRead.Value v p) then-three f = f v p
 (LineRead.Refused r) then-three f = ThreeRead.Refused r
 
-abbrev pub threeNumbered : ℕ → Spot → ThreeLines → ThreeRead
-threeNumbered k p got =
-    numberedLine k p (got .first) then-three λ a p.
-    numberedLine (k + 1) p (got .second) then-three λ b p.
-    numberedLine (k + 2) p (got .third) then-three λ c p.
+abbrev pub threeNumbered : List ℕ → ℕ → Spot → ThreeLines → ThreeRead
+threeNumbered s k p got =
+    numberedLine s k p (got .first) then-three λ a p.
+    numberedLine s (k + 1) p (got .second) then-three λ b p.
+    numberedLine s (k + 2) p (got .third) then-three λ c p.
     ThreeRead.Values (record { first = a; second = b; third = c }) p
 
 module _ {A B : Type 0} where

@@ -3,6 +3,7 @@ use scanning::Found;
 use scanning::Listed;
 use scanning::Scanned;
 use scanning::byte_at;
+use scanning::fault_at;
 use scanning::in_order;
 use scanning::list_at;
 use scanning::number_at;
@@ -12,26 +13,29 @@ ghost use mathlib.Core.Path.{_≡_};
 ghost use lib.ListN.{drop};
 ghost use Rattle.format.specs.Keys.{keyAt};
 ghost use Rattle.format.specs.Spelling.{heading, number, list};
+ghost use Rattle.format.specs.Reading.{valueColumn, offending};
 ghost use Rattle.schedule.specs.WellFormed.{within};
 ghost use Rattle.scanning.specs.Positions.{foundOf};
 ghost use Rattle.scanning.specs.Masks.{maskOf, fairList};
 ghost use Rattle.lines.specs.Lines.{same, always, predecessors, judgeBy, closed, valued, lineJudged, judgedOf, after, threeOf};
 
-// The places of the keys with which a table, a graph and a node begin, and of `after`.
+// The places of the keys with which a table, a graph and a node begin, and of `nodes` and `after`.
 pub const PROCESSORS: usize = 0;
 
 pub const PERIOD: usize = 3;
 
 pub const BUDGET: usize = 6;
 
+pub const NODES: usize = 5;
+
 pub const AFTER: usize = 8;
 
 // A line's value, a number or a mask, and the position after the line; where its spelling goes wrong; or that its value is outside its
-// limits or against the predecessor rules.
+// limits or against the predecessor rules, and the position of what is at fault.
 pub enum Line {
     Value(u32, usize),
     Misspelled(usize),
-    Unfair,
+    Unfair(usize),
 }
 
 // Three lines, one after another.
@@ -53,6 +57,14 @@ pub fn heading_at(s: &[u8], at: usize, k: usize) -> Found
     }
 }
 
+// The column of a value of key k: behind the key's name and `=`.
+pub fn value_column(k: usize) -> u32
+    ensures { λ r. ⌜ r ≡ valueColumn k ⌝ }
+{
+    let key = Table::key(k);
+    key.length as u32 + 2
+}
+
 pub fn is_within(k: usize, v: u32) -> bool
     ensures { λ r. ⌜ r ≡ within (keyAt k .range) v ⌝ }
 {
@@ -61,9 +73,9 @@ pub fn is_within(k: usize, v: u32) -> bool
     range.from <= v && v <= range.to
 }
 
-// The LF behind a value v, which is fair or not: also of one that is not fair, spelling is judged first.
-pub fn closed_at(s: &[u8], at: usize, v: u32, fair: bool) -> Line
-    ensures { λ r. ⌜ judgedOf (now (s .entry)) r ≡ judgeBy same (always fair) (closed v (drop at (now (s .entry)))) ⌝ }
+// The LF behind a value v, which is fair or has a fault: also of one that is not fair, spelling is judged first.
+pub fn closed_at(s: &[u8], at: usize, v: u32, fair: bool, fault: usize) -> Line
+    ensures { λ r. ⌜ judgedOf (now (s .entry)) r ≡ judgeBy same (always fair) (drop fault (now (s .entry))) (closed v (drop at (now (s .entry)))) ⌝ }
 {
     let end = byte_at(s, at, b'\n');
     if fair {
@@ -74,29 +86,29 @@ pub fn closed_at(s: &[u8], at: usize, v: u32, fair: bool) -> Line
     } else {
         match end {
             Found::Wrong(q) => Line::Misspelled(q),
-            Found::After(_) => Line::Unfair,
+            Found::After(_) => Line::Unfair(fault),
         }
     }
 }
 
 pub fn number_value(s: &[u8], at: usize, k: usize) -> Line
-    ensures { λ r. ⌜ judgedOf (now (s .entry)) r ≡ judgeBy same (within (keyAt k .range)) (valued number (drop at (now (s .entry)))) ⌝ }
+    ensures { λ r. ⌜ judgedOf (now (s .entry)) r ≡ judgeBy same (within (keyAt k .range)) (drop at (now (s .entry))) (valued number (drop at (now (s .entry)))) ⌝ }
 {
     match number_at(s, at) {
         Scanned::Wrong(p) => Line::Misspelled(p),
-        Scanned::Number(v, p) => closed_at(s, p, v, is_within(k, v)),
+        Scanned::Number(v, p) => closed_at(s, p, v, is_within(k, v), at),
     }
 }
 
 // The list of the key `after`, each number within that key's limits.
 pub fn list_value(s: &[u8], at: usize, own: u32) -> Line
-    ensures { λ r. ⌜ judgedOf (now (s .entry)) r ≡ judgeBy maskOf (fairList predecessors own) (valued list (drop at (now (s .entry)))) ⌝ }
+    ensures { λ r. ⌜ judgedOf (now (s .entry)) r ≡ judgeBy maskOf (fairList predecessors own) (offending own (drop at (now (s .entry)))) (valued list (drop at (now (s .entry)))) ⌝ }
 {
     let key = Table::key(AFTER);
     let range = key.range;
     match list_at(s, at, range, own) {
         Listed::Wrong(p) => Line::Misspelled(p),
-        Listed::List(l, p) => closed_at(s, p, l.mask, in_order(own, l)),
+        Listed::List(l, p) => { closed_at(s, p, l.mask, in_order(own, l), fault_at(s, at, own)) },
     }
 }
 
@@ -123,7 +135,7 @@ pub fn past(read: Line, at: usize) -> usize
     match read {
         Line::Value(_, p) => p,
         Line::Misspelled(_) => at,
-        Line::Unfair => at,
+        Line::Unfair(_) => at,
     }
 }
 

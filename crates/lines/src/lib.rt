@@ -4,8 +4,11 @@ mod numbering;
 mod reader;
 
 pub use judging::BUDGET;
+pub use judging::NODES;
 pub use judging::PERIOD;
 pub use judging::PROCESSORS;
+pub use judging::value_column;
+pub use numbering::FIRST_COLUMN;
 pub use numbering::Place;
 pub use numbering::Three;
 pub use numbering::ThreeRead;

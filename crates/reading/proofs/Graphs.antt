@@ -13,7 +13,7 @@ use Rattle.schedule.specs.Limits as Limits
 use Rattle.format.specs.Keys as Keys
 use Rattle.schedule.specs.Table.{Node, Graph}
 use Rattle.schedule.specs.WellFormed.{within, allFollowed, nodesFormed}
-use Rattle.format.specs.Reading.{Place, Outcome, refused, done, _and-then_, numberLine, nodesFrom, graphNodes, graph, graphsFrom, ended, table}
+use Rattle.format.specs.Reading.{Place, firstColumn, Outcome, refused, done, _and-then_, valueColumn, numberLine, nodesFrom, graphNodes, graph, graphsFrom, ended, table}
 use Rattle.rules.proofs.Outcomes.{Holds, number-line-holds}
 use Rattle.schedule.proofs.Tests.{by-test}
 use Rattle.numbers.specs.Masks.{unsetBelow}
@@ -82,7 +82,7 @@ table-three p =
 
 -- a graph's nodes
 module _ (total period offset n l : ℕ) (p : Place) where
-  pub nodes-over : Limits.allNodes .to < total + n → graphNodes total period offset n l p ≡ refused (OutsideLimits l)
+  pub nodes-over : Limits.allNodes .to < total + n → graphNodes total period offset n l p ≡ refused (OutsideLimits l (valueColumn Keys.nodes))
   unfolding graphNodes
   nodes-over h = rw (lt-leb (total + n) (Limits.allNodes .to) h)
 
@@ -93,7 +93,7 @@ module _ (total period offset n l : ℕ) (p : Place) where
 
     pub nodes-done : (xs : List Node) (q : Place) → nodesFrom 1 n p ≡ done xs q
         → graphNodes total period offset n l p
-        ≡ cond (allFollowed xs) (done (record { period = period; offset = offset; nodes = xs }) q) (refused (AgainstPredecessorRules (q .line - 1)))
+        ≡ cond (allFollowed xs) (done (record { period = period; offset = offset; nodes = xs }) q) (refused (AgainstPredecessorRules (q .line - 1) firstColumn))
     unfolding graphNodes
     nodes-done xs q e = rw (le-leb (total + n) (Limits.allNodes .to) h, e)
 
@@ -108,7 +108,7 @@ module _ (t : Memory) (head : Three) (xs : List Node) (taking : Taken) (many : l
   pub ended-graph : head .third ≤ Limits.nodes .to → nodesFormed 1 xs ≡ true → (s : List ℕ) (p : Spot)
       → tableReadOf s (endedGraph t head (taking .nodes) (taking .named) p)
       ≡ mapOutcome (withGraph t)
-      (cond (allFollowed xs) (done (record { period = head .first; offset = head .second; nodes = xs }) (placeOf s p)) (refused (AgainstPredecessorRules (p .line - 1))))
+      (cond (allFollowed xs) (done (record { period = head .first; offset = head .second; nodes = xs }) (placeOf s p)) (refused (AgainstPredecessorRules (p .line - 1) firstColumn)))
   ended-graph few formed s p =
       by-test (allFollowed xs)
       (λ f. rw (none-left few formed, f) (ap (λ (m : Memory). done m (placeOf s p)) added-graph))
@@ -158,7 +158,7 @@ ended-map a b (done Gs p) = last (p .bytes)
 
 -- the code's test for more bytes
 module _ (m : Memory) (l p : ℕ) (s : List ℕ) where
-  pub ended-more : p < length s → ended m (record { line = l; bytes = drop p s }) (drop p s) ≡ refused (Misspelled l)
+  pub ended-more : p < length s → ended m (record { line = l; bytes = drop p s }) (drop p s) ≡ refused (Misspelled l firstColumn)
   ended-more h = ap (λ (b : List ℕ). ended m (record { line = l; bytes = drop p s }) b) (next s p h)
 
   pub ended-none : length s ≤ p → ended m (record { line = l; bytes = drop p s }) (drop p s) ≡ done m (record { line = l; bytes = drop p s })

@@ -7,7 +7,7 @@ use lib.Dec.{eqb}
 use lib.ListN.{set}
 use Rattle.format.specs.declared.Refusal.the-variants.{AgainstPredecessorRules}
 use Rattle.schedule.specs.Table as Rules
-use Rattle.format.specs.Reading.{Outcome, refused, done}
+use Rattle.format.specs.Reading.{firstColumn, Outcome, refused, done}
 use Rattle.numbers.specs.Masks.{unsetBelow}
 use Rattle.table.specs.declared.Table.{Table}
 use Rattle.table.specs.declared.Node.{Node}
@@ -67,4 +67,4 @@ abbrev pub endedGraph : Table → Three → List Node → ℕ → Spot → Table
 endedGraph t head list named p =
     cond (eqb (unsetBelow (head .third - 1) named) 0)
     (record { table = addedGraph t head list; end = End.At p })
-    (record { table = t; end = End.Refused (AgainstPredecessorRules (p .line - 1)) })
+    (record { table = t; end = End.Refused (AgainstPredecessorRules (p .line - 1) firstColumn) })

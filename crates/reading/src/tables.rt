@@ -1,17 +1,21 @@
 // The lines one after another: three for a table's head, for a graph's and for each node; then the table, or refusal 1 to 4.
 use format::Refusal;
 use lines::BUDGET;
+use lines::FIRST_COLUMN;
+use lines::NODES;
 use lines::PERIOD;
 use lines::PROCESSORS;
 use lines::Place;
 use lines::Three;
 use lines::ThreeRead;
 use lines::three_at;
+use lines::value_column;
 use table::Graph;
 use table::Node;
 use table::Table;
 ghost use mathlib.Core.Path.{_≡_};
 ghost use Prim.Native.Nat.{_+_, _-_, _*_, _^_, _<_, _≤_};
+ghost use lib.ListN.{length};
 ghost use Rattle.schedule.specs.Limits as Limits;
 ghost use Rattle.format.specs.Reading.{_and-then_, node, nodesFrom, graphNodes, graph, graphsFrom, ended, readOf};
 ghost use Rattle.reading.specs.Memory.{codedNode, withGraph, withGraphs, memoryOf};
@@ -42,7 +46,7 @@ pub struct TableRead {
 }
 
 pub fn node_at(s: &[u8], place: Place, own: u32) -> NodeRead
-    requires { ⌜ (place .line + 3 < 2 ^ 32) × (own ≤ Limits.nodes .to) ⌝ }
+    requires { ⌜ (place .line + 3 < 2 ^ 32) × (own ≤ Limits.nodes .to) × (length (now s) ≤ Limits.tableBytes .to) ⌝ }
     ensures { λ r. ⌜ nodeReadOf (now (s .entry)) r ≡ mapOutcome codedNode (node own (placeOf (now (s .entry)) place)) ⌝ }
 {
     match three_at(s, place, BUDGET, own) {
@@ -66,7 +70,7 @@ pub fn nodes_at(
     first: usize,
     n: u32,
 ) -> NodesRead
-    requires { ⌜ (first + n ≤ Limits.allNodes .to) × (n ≤ Limits.nodes .to) × (place .line + 3 * n < 2 ^ 32) ⌝ }
+    requires { ⌜ (first + n ≤ Limits.allNodes .to) × (n ≤ Limits.nodes .to) × (place .line + 3 * n < 2 ^ 32) × (length (now s) ≤ Limits.tableBytes .to) ⌝ }
     ensures { λ r. ⌜ nodesReadOf (now (s .entry)) r ≡ mapOutcome (taken nodes first 0) (nodesFrom 1 n (placeOf (now (s .entry)) place)) ⌝ }
 {
     let mut list = nodes;
@@ -141,25 +145,27 @@ pub fn graph_ended(
         }
     } else {
         let line = p.line - 1;
+        let column = FIRST_COLUMN;
         TableRead {
             table: t,
-            end: End::Refused(Refusal::AgainstPredecessorRules { line }),
+            end: End::Refused(Refusal::AgainstPredecessorRules { line, column }),
         }
     }
 }
 
 // A graph's nodes, once the three lines of its head are read.
 pub fn graph_nodes(s: &[u8], place: Place, t: Table, head: Three) -> TableRead
-    requires { ⌜ (t .graphs < Limits.graphs .to) × (t .nodes ≤ Limits.allNodes .to) × (1 ≤ head .third) × (head .third ≤ Limits.nodes .to) × (0 < place .line) × (place .line + 3 * head .third < 2 ^ 32) ⌝ }
+    requires { ⌜ (t .graphs < Limits.graphs .to) × (t .nodes ≤ Limits.allNodes .to) × (1 ≤ head .third) × (head .third ≤ Limits.nodes .to) × (0 < place .line) × (place .line + 3 * head .third < 2 ^ 32) × (length (now s) ≤ Limits.tableBytes .to) ⌝ }
     ensures { λ r. ⌜ tableReadOf (now (s .entry)) r ≡ mapOutcome (withGraph t) (graphNodes (t .nodes) (head .first) (head .second) (head .third) (place .line - 1) (placeOf (now (s .entry)) place)) ⌝ }
 {
     let first = t.nodes;
     let n = head.third;
     if Table::SERVERS < first + n as usize {
         let line = place.line - 1;
+        let column = value_column(NODES);
         return TableRead {
             table: t,
-            end: End::Refused(Refusal::OutsideLimits { line }),
+            end: End::Refused(Refusal::OutsideLimits { line, column }),
         };
     }
     let old = t.node;
@@ -176,7 +182,7 @@ pub fn graph_nodes(s: &[u8], place: Place, t: Table, head: Three) -> TableRead
 }
 
 pub fn graph_at(s: &[u8], place: Place, t: Table) -> TableRead
-    requires { ⌜ (t .graphs < Limits.graphs .to) × (t .nodes ≤ Limits.allNodes .to) × (place .line + 3 + 3 * Limits.nodes .to < 2 ^ 32) ⌝ }
+    requires { ⌜ (t .graphs < Limits.graphs .to) × (t .nodes ≤ Limits.allNodes .to) × (place .line + 3 + 3 * Limits.nodes .to < 2 ^ 32) × (length (now s) ≤ Limits.tableBytes .to) ⌝ }
     ensures { λ r. ⌜ tableReadOf (now (s .entry)) r ≡ mapOutcome (withGraph t) (graph (t .nodes) (placeOf (now (s .entry)) place)) ⌝ }
 {
     match three_at(s, place, PERIOD, 0) {
@@ -189,7 +195,7 @@ pub fn graph_at(s: &[u8], place: Place, t: Table) -> TableRead
 }
 
 pub fn graphs_at(s: &[u8], place: Place, t: Table, n: u32) -> TableRead
-    requires { ⌜ (t .graphs + n ≤ Limits.graphs .to) × (t .nodes ≤ Limits.allNodes .to) × (place .line + n * (3 + 3 * Limits.nodes .to) < 2 ^ 32) ⌝ }
+    requires { ⌜ (t .graphs + n ≤ Limits.graphs .to) × (t .nodes ≤ Limits.allNodes .to) × (place .line + n * (3 + 3 * Limits.nodes .to) < 2 ^ 32) × (length (now s) ≤ Limits.tableBytes .to) ⌝ }
     ensures { λ r. ⌜ tableReadOf (now (s .entry)) r ≡ mapOutcome (withGraphs t) (graphsFrom (t .nodes) n (placeOf (now (s .entry)) place)) ⌝ }
 {
     let mut u = t;
@@ -233,10 +239,11 @@ pub fn ended_at(s: &[u8], got: TableRead) -> TableRead
         End::At(p) => {
             let at = p.at;
             let line = p.line;
+            let column = FIRST_COLUMN;
             if at < s.len() {
                 TableRead {
                     table,
-                    end: End::Refused(Refusal::Misspelled { line }),
+                    end: End::Refused(Refusal::Misspelled { line, column }),
                 }
             } else {
                 TableRead {

@@ -8,7 +8,7 @@ use Rattle.format.specs.declared.Refusal.the-variants.{CannotKeepUp}
 use Rattle.format.specs.Bytes.{bytes}
 use Rattle.rules.specs.Admission.{refused, admit, admissionOf}
 use Rattle.rules.specs.Answers.{reportOn, printed, callOf}
-use Rattle.rules.specs.AnswerNumbers.{answerNumber, answerLineNumber, answerLength}
+use Rattle.rules.specs.AnswerNumbers.{answerNumber, answerLineNumber, answerColumn, answerLength}
 use Rattle.rules.specs.Cases.{AdmissionCase, admissions, Overtaken, overtakes, overtaken, replyTo, PrintCase, printCases, StopCase, stopCases, CallCase, callCases, lent, AnswerCase, told, answerCases}
 use Rattle.rules.proofs.Computing.{answering}
 
@@ -60,6 +60,6 @@ pub stops-reported : map (λ (c : StopCase). printed (reportOn (c .how) 8 (6 ∷
 unfolding answering stopCases
 stops-reported = refl
 
-pub numbers-hold : map (λ (c : AnswerCase). told (c .answer) (answerNumber (c .answer)) (answerLineNumber (c .answer)) (answerLength (c .answer))) answerCases ≡ answerCases
+pub numbers-hold : map (λ (c : AnswerCase). told (c .answer) (answerNumber (c .answer)) (answerLineNumber (c .answer)) (answerColumn (c .answer)) (answerLength (c .answer))) answerCases ≡ answerCases
 unfolding answerCases
 numbers-hold = refl

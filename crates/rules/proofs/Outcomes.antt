@@ -8,7 +8,7 @@ use Rattle.format.specs.Keys.{keyAt}
 use Rattle.format.specs.Keys as Keys
 use Rattle.format.specs.Spelling.{Scan, read, wrong, number, list, line}
 use Rattle.schedule.specs.WellFormed.{within, orderly}
-use Rattle.format.specs.Reading.{Place, Outcome, refused, done, _and-then_, judged, numberLine, afterLine}
+use Rattle.format.specs.Reading.{Place, Outcome, refused, done, _and-then_, columnAt, judged, valueColumn, valueIn, numberLine, offending, afterLine}
 use Rattle.schedule.proofs.Tests.{by-test}
 
 module _ {A : Type 0} where
@@ -20,10 +20,10 @@ module _ {A : Type 0} where
   pub told : (P : A → Place → Type 0) {x : Outcome A} {a : A} {p : Place} → x ≡ done a p → Holds P x → P a p
   told P e h = subst (Holds P) e h
 
-  pub judged-holds : (unfair : ℕ → Refusal) (fair : A → Bool) (l : ℕ) (x : Scan A)
-      → Holds (λ a p. (fair a ≡ true) × (p .line ≡ suc l)) (judged unfair fair l x)
-  judged-holds unfair fair l (wrong rest) = tt
-  judged-holds unfair fair l (read v rest) = by-test (fair v) (λ e. rw e (e, refl)) (λ e. rw e tt)
+  pub judged-holds : (unfair : ℕ → ℕ → Refusal) (fault : ℕ) (fair : A → Bool) (p : Place) (x : Scan A)
+      → Holds (λ a q. (fair a ≡ true) × (q .line ≡ suc (p .line))) (judged unfair fault fair p x)
+  judged-holds unfair fault fair p (wrong rest) = tt
+  judged-holds unfair fault fair p (read v rest) = by-test (fair v) (λ e. rw e (e, refl)) (λ e. rw e tt)
 
 module _ {A B : Type 0} where
   pub then-holds : (P : A → Place → Type 0) (Q : B → Place → Type 0) (x : Outcome A) (f : A → Place → Outcome B)
@@ -34,8 +34,8 @@ module _ {A B : Type 0} where
 -- a line that passes is fair, and the next line follows it
 pub number-line-holds : (k : ℕ) (p : Place) → Holds (λ v q. (within (keyAt k .range) v ≡ true) × (q .line ≡ suc (p .line))) (numberLine k p)
 unfolding numberLine
-number-line-holds k p = judged-holds OutsideLimits (within (keyAt k .range)) (p .line) (line (keyAt k .name) number (p .bytes))
+number-line-holds k p = judged-holds OutsideLimits (valueColumn k) (within (keyAt k .range)) p (line (keyAt k .name) number (p .bytes))
 
 pub after-line-holds : (own : ℕ) (p : Place) → Holds (λ v q. (orderly own v ≡ true) × (q .line ≡ suc (p .line))) (afterLine own p)
 unfolding afterLine
-after-line-holds own p = judged-holds AgainstPredecessorRules (orderly own) (p .line) (line (keyAt Keys.after .name) list (p .bytes))
+after-line-holds own p = judged-holds AgainstPredecessorRules (columnAt (p .bytes) (offending own (valueIn Keys.after (p .bytes)))) (orderly own) p (line (keyAt Keys.after .name) list (p .bytes))

@@ -23,9 +23,9 @@ use Rattle.theorems.proofs.LeastTrue.{figures-are-least-true}
 -- no refusal has the number 0
 number-some : (r : Refusal) → numberOf r ≡ 0 → ⊥
 number-some TooLong e = omega arith
-number-some (Misspelled l) e = omega arith
-number-some (OutsideLimits l) e = omega arith
-number-some (AgainstPredecessorRules l) e = omega arith
+number-some (Misspelled l c) e = omega arith
+number-some (OutsideLimits l c) e = omega arith
+number-some (AgainstPredecessorRules l c) e = omega arith
 number-some LongHyperperiod e = omega arith
 number-some NotLoadable e = omega arith
 number-some Backlog e = omega arith

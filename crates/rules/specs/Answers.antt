@@ -10,7 +10,7 @@ use Rattle.rules.specs.declared.Answer.the-variants.{Text, Refused}
 use Rattle.format.specs.declared.Refusal.{Refusal}
 use Rattle.format.specs.declared.Refusal.the-variants.{Backlog, Unsettled, PastTheStop, ShortBuffer}
 use Rattle.format.specs.Bytes.{bytes, lineFeed, equals, comma, decimal}
-use Rattle.format.specs.Refusals.{numberOf, lineOf}
+use Rattle.format.specs.Refusals.{numberOf, lineOf, columnOf}
 use Rattle.schedule.specs.Servers.{Box, boxOf, whole}
 use Rattle.schedule.specs.Walk.{Stop, settled, unsettled, backlog, Walked, Running, wholeWalk, rowAt}
 use Rattle.rules.specs.Admission.{Admission, admitted, refused, admissionOf}
@@ -40,7 +40,7 @@ rowText (x ∷ xs) =
 -- what the program prints of a reply
 unfoldable pub printed : Reply → List ℕ
 printed (says s) = s
-printed (refuses r) = answerLine "answer" (numberOf r) ++ answerLine "line" (lineOf r)
+printed (refuses r) = answerLine "answer" (numberOf r) ++ (answerLine "line" (lineOf r) ++ answerLine "column" (columnOf r))
 
 -- the report of a walk: refusals 7 and 8
 abbrev pub reportOn : Stop → ℕ → List ℕ → Reply

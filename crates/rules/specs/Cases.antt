@@ -113,16 +113,16 @@ printCases =
     prints node-1-every-4 report "answer=0\nround=1\nticks=4\nresponse=1\n"
     ∷ prints chain-1-1 report "answer=0\nround=2\nticks=8\nresponse=6\n"
     ∷ prints two-graphs report "answer=0\nround=1\nticks=4\nresponse=1\nresponse=2\n"
-    -- refusals print their number and line
-    ∷ prints "" report "answer=2\nline=1\n"
-    ∷ prints "processors=1\nrounds=0\n" report "answer=3\nline=2\n"
+    -- refusals print their number, line and column
+    ∷ prints "" report "answer=2\nline=1\ncolumn=1\n"
+    ∷ prints "processors=1\nrounds=0\n" report "answer=3\nline=2\ncolumn=8\n"
     -- what reading refuses comes before a long hyperperiod
-    ∷ prints long-hyperperiod report "answer=5\nline=0\n"
-    ∷ prints long-hyperperiod-against-4 report "answer=4\nline=15\n"
-    ∷ prints chain-3-2 report "answer=6\nline=0\n"
-    ∷ prints eight-every-1-on-1 report "answer=6\nline=0\n"
-    ∷ prints eight-every-1 report "answer=12\nline=0\n"
-    ∷ prints chain-1-1-in-1-round report "answer=8\nline=0\n"
+    ∷ prints long-hyperperiod report "answer=5\nline=0\ncolumn=0\n"
+    ∷ prints long-hyperperiod-against-4 report "answer=4\nline=15\ncolumn=7\n"
+    ∷ prints chain-3-2 report "answer=6\nline=0\ncolumn=0\n"
+    ∷ prints eight-every-1-on-1 report "answer=6\nline=0\ncolumn=0\n"
+    ∷ prints eight-every-1 report "answer=12\nline=0\ncolumn=0\n"
+    ∷ prints chain-1-1-in-1-round report "answer=8\nline=0\ncolumn=0\n"
     -- rows: a line for each running server job; none in an idle tick
     ∷ prints chain-1-1 (row 1) "run=1,2,1,0\n"
     ∷ prints chain-1-1 (row 5) "run=1,2,2,1\n"
@@ -130,16 +130,16 @@ printCases =
     ∷ prints chain-4-4 (row 4) "run=1,1,2,2\nrun=1,2,2,1\n"
     -- at or past the stop
     ∷ prints chain-1-1 (row 7) ""
-    ∷ prints chain-1-1 (row 8) "answer=9\nline=0\n"
-    ∷ prints chain-1-1 (row 9) "answer=9\nline=0\n"
+    ∷ prints chain-1-1 (row 8) "answer=9\nline=0\ncolumn=0\n"
+    ∷ prints chain-1-1 (row 9) "answer=9\nline=0\ncolumn=0\n"
     -- before the stop also where the report gives 7 or 8
     ∷ prints chain-1-1-in-1-round (row 0) "run=1,1,1,1\n"
-    ∷ prints chain-1-1-in-1-round (row 4) "answer=9\nline=0\n"
+    ∷ prints chain-1-1-in-1-round (row 4) "answer=9\nline=0\ncolumn=0\n"
     -- the table's own refusals come first, also for rows that the walk would show, and before 9
-    ∷ prints chain-3-2 (row 9) "answer=6\nline=0\n"
-    ∷ prints eight-every-1-on-1 (row 0) "answer=6\nline=0\n"
-    ∷ prints eight-every-1 (row 17) "answer=12\nline=0\n"
-    ∷ prints eight-every-1 (row 18) "answer=12\nline=0\n"
+    ∷ prints chain-3-2 (row 9) "answer=6\nline=0\ncolumn=0\n"
+    ∷ prints eight-every-1-on-1 (row 0) "answer=6\nline=0\ncolumn=0\n"
+    ∷ prints eight-every-1 (row 17) "answer=12\nline=0\ncolumn=0\n"
+    ∷ prints eight-every-1 (row 18) "answer=12\nline=0\ncolumn=0\n"
     ∷ []
 
 -- the report of each way to stop. (A table whose own walk stops with backlog: crates worked and answers)
@@ -153,8 +153,8 @@ reports how s = record { how = how; prints = s }
 unfoldable pub stopCases : List StopCase
 stopCases =
     reports (settled 2) "answer=0\nround=2\nticks=8\nresponse=6\n"
-    ∷ reports backlog "answer=7\nline=0\n"
-    ∷ reports unsettled "answer=8\nline=0\n"
+    ∷ reports backlog "answer=7\nline=0\ncolumn=0\n"
+    ∷ reports unsettled "answer=8\nline=0\ncolumn=0\n"
     ∷ []
 
 -- calls with a lent buffer, whose bytes are all 255
@@ -192,7 +192,7 @@ callCases =
     ∷ writes chain-1-1 (row 2) "" 0
     ∷ writes chain-1-1 (row 2) "" 4
     -- every other refusal comes before 10, and a buffer that is long enough changes none
-    ∷ leaves "" report 0 (Misspelled 1)
+    ∷ leaves "" report 0 (Misspelled 1 1)
     ∷ leaves chain-3-2 report 0 NotLoadable
     ∷ leaves eight-every-1 report 0 CannotKeepUp
     ∷ leaves eight-every-1 (row 0) 0 CannotKeepUp
@@ -202,21 +202,22 @@ callCases =
     ∷ leaves chain-1-1 (row 8) 50 PastTheStop
     ∷ []
 
--- an answer's number, line and length
+-- an answer's number, line, column and length
 pub record AnswerCase : Type 0 where
   pub answer : Answer
   pub number : ℕ
   pub line : ℕ
+  pub column : ℕ
   pub length : ℕ
 
-abbrev pub told : Answer → ℕ → ℕ → ℕ → AnswerCase
-told a n l k = record { answer = a; number = n; line = l; length = k }
+abbrev pub told : Answer → ℕ → ℕ → ℕ → ℕ → AnswerCase
+told a n l c k = record { answer = a; number = n; line = l; column = c; length = k }
 
 unfoldable pub answerCases : List AnswerCase
 answerCases =
-    told (Text 36) 0 0 36
-    ∷ told (Text 0) 0 0 0
-    ∷ told (Refused (AgainstPredecessorRules 12)) 4 12 0
-    ∷ told (Refused Backlog) 7 0 0
-    ∷ told (Refused CannotKeepUp) 12 0 0
+    told (Text 36) 0 0 0 36
+    ∷ told (Text 0) 0 0 0 0
+    ∷ told (Refused (AgainstPredecessorRules 12 9)) 4 12 9 0
+    ∷ told (Refused Backlog) 7 0 0 0
+    ∷ told (Refused CannotKeepUp) 12 0 0 0
     ∷ []

@@ -1,5 +1,6 @@
 pub mod ScannerLaws
 pub mod Images
 pub mod Predecessors
+pub mod Faults
 pub mod MaskBits
 pub mod Members

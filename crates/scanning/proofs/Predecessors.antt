@@ -25,7 +25,7 @@ use Rattle.scanning.proofs.MaskBits.{Fits, mask-bit}
 
 module _ {A : Type 0} where
   -- a value takes up at least d of the bytes b
-  abbrev Takes : ℕ → List ℕ → Scan A → Type 0
+  abbrev pub Takes : ℕ → List ℕ → Scan A → Type 0
   Takes d b (read a rest) = length rest + d ≤ length b
   Takes d b (wrong rest) = Unit {0}
 
@@ -41,7 +41,7 @@ digits-take v (c ∷ rest) =
     longer (read a r) h = omega arith
     longer (wrong r) h = tt
 
-number-takes : (b : List ℕ) → Takes 1 b (number b)
+pub number-takes : (b : List ℕ) → Takes 1 b (number b)
 unfolding number
 number-takes [] = tt
 number-takes (c ∷ rest) =

@@ -4,6 +4,7 @@ mod scanners;
 
 pub use lists::Listed;
 pub use lists::Listing;
+pub use lists::fault_at;
 pub use lists::in_order;
 pub use lists::list_at;
 pub use scanners::Found;

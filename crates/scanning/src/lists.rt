@@ -6,8 +6,11 @@ use crate::scanners::number_at;
 use crate::scanners::text_at;
 use table::Range;
 ghost use mathlib.Core.Path.{_≡_};
+ghost use mathlib.Core.Bool.{_&&_};
+ghost use lib.Dec.{ltb};
 ghost use lib.ListN.{drop};
 ghost use Rattle.format.specs.Spelling.{numbers, list};
+ghost use Rattle.format.specs.Reading.{offending};
 ghost use Rattle.scanning.specs.Positions.{mapScan};
 ghost use Rattle.scanning.specs.Masks.{inRange, entered, entries, noEntries, listing, inOrder, listedOf};
 
@@ -98,6 +101,40 @@ pub fn list_at(s: &[u8], at: usize, range: Range, own: u32) -> Listed
         }
     } else {
         numbers_at(s, at, range, own)
+    }
+}
+
+// A number that is above the one before it and below the node's own.
+pub fn rises(last: u32, v: u32, own: u32) -> bool
+    ensures { λ r. ⌜ r ≡ ltb last v && ltb v own ⌝ }
+{
+    last < v && v < own
+}
+
+// Where the first number of a list stands that breaks the rules. (In a list that keeps them, its last.)
+pub fn fault_at(s: &[u8], at: usize, own: u32) -> usize
+    ensures { λ r. ⌜ drop r (now (s .entry)) ≡ offending own (drop at (now (s .entry))) ⌝ }
+{
+    let mut last: u32 = 0;
+    let mut p = at;
+    loop {
+        match number_at(s, p) {
+            Scanned::Wrong(_) => {
+                return p;
+            }
+            Scanned::Number(v, q) => {
+                if rises(last, v, own) {
+                    if next_is(s, q, b',') {
+                        last = v;
+                        p = q + 1;
+                    } else {
+                        return p;
+                    }
+                } else {
+                    return p;
+                }
+            }
+        }
     }
 }
 

@@ -3,13 +3,13 @@ use mathlib.Core.Path.{_≡_}
 use mathlib.Core.List.{List}
 use Prim.Native.Nat.{ℕ}
 use Rattle.rules.specs.declared.Answer.{Answer}
-use Rattle.rules.specs.AnswerNumbers.{answerNumber, answerLineNumber, answerLength}
+use Rattle.rules.specs.AnswerNumbers.{answerNumber, answerLineNumber, answerColumn, answerLength}
 use Rattle.rules.specs.Answers.{Call}
 use Rattle.sheet.specs.declared.exports.PhalandrixAnswer.{PhalandrixAnswer}
 
--- document 01's number, line and length for every case of an answer
+-- the number, line, column and length for every case of an answer
 abbrev pub toldOf : Answer → PhalandrixAnswer
-toldOf a = record { number = answerNumber a; line = answerLineNumber a; length = answerLength a }
+toldOf a = record { number = answerNumber a; line = answerLineNumber a; column = answerColumn a; length = answerLength a }
 
 pub record Told (r : PhalandrixAnswer) (buffer : List ℕ) (call : Call) : Type 0 where
   pub answer : r ≡ toldOf (call .answer)

@@ -7,11 +7,12 @@ ghost use Rattle.rules.specs.Answers.{reportOf, rowOf, callOf};
 ghost use Rattle.rules.specs.Demands.{TrueReport};
 ghost use Rattle.sheet.specs.Exports.{toldOf, Told};
 
-// Document 01's number and line, and the text's length: number 0 and line 0 with the length; or a refusal's number and line with length 0.
+// Document 01's number and line, document 02's column, and the text's length: 0, 0 and 0 with the length; or a refusal's own with length 0.
 #[repr(C)]
 pub struct PhalandrixAnswer {
     pub number: u32,
     pub line: u32,
+    pub column: u32,
     pub length: usize,
 }
 
@@ -22,11 +23,13 @@ pub fn told(a: Answer) -> PhalandrixAnswer
         Answer::Text(n) => PhalandrixAnswer {
             number: 0,
             line: 0,
+            column: 0,
             length: n,
         },
         Answer::Refused(f) => PhalandrixAnswer {
             number: writing::number_of(f),
             line: writing::line_of(f),
+            column: writing::column_of(f),
             length: 0,
         },
     }

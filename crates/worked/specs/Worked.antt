@@ -87,18 +87,18 @@ period-2⁶⁴+4 = "processors=1\nrounds=64\ngraphs=1\nperiod=184467440737095516
 unfoldable pub workedTables : List Worked
 workedTables =
     record { table = node-1-every-4; says = prints "answer=0\nround=1\nticks=4\nresponse=1\n" ∷ [] }
-    ∷ record { table = chain-1-1; says = prints "answer=0\nround=2\nticks=8\nresponse=6\n" ∷ printsRow 1 "run=1,2,1,0\n" ∷ printsRow 5 "run=1,2,2,1\n" ∷ printsRow 2 "" ∷ printsRow 8 "answer=9\nline=0\n" ∷ [] }
-    ∷ record { table = chain-1-1-in-1-round; says = prints "answer=8\nline=0\n" ∷ [] }
+    ∷ record { table = chain-1-1; says = prints "answer=0\nround=2\nticks=8\nresponse=6\n" ∷ printsRow 1 "run=1,2,1,0\n" ∷ printsRow 5 "run=1,2,2,1\n" ∷ printsRow 2 "" ∷ printsRow 8 "answer=9\nline=0\ncolumn=0\n" ∷ [] }
+    ∷ record { table = chain-1-1-in-1-round; says = prints "answer=8\nline=0\ncolumn=0\n" ∷ [] }
     ∷ record { table = chain-1-1-in-2-rounds; says = prints "answer=0\nround=2\nticks=8\nresponse=6\n" ∷ [] }
     ∷ record { table = chain-2-2; says = prints "answer=0\nround=2\nticks=8\nresponse=8\n" ∷ [] }
-    ∷ record { table = chain-3-2; says = prints "answer=6\nline=0\n" ∷ [] }
+    ∷ record { table = chain-3-2; says = prints "answer=6\nline=0\ncolumn=0\n" ∷ [] }
     ∷ record { table = chain-4-4; says = prints "answer=0\nround=2\nticks=8\nresponse=8\n" ∷ linksAt 2 1 2 4 ∷ [] }
     ∷ record { table = level-2; says = prints "answer=0\nround=2\nticks=4\nresponse=3\n" ∷ [] }
-    ∷ record { table = level-1-in-46-rounds; says = prints "answer=12\nline=0\n" ∷ printsRow 0 "answer=12\nline=0\n" ∷ [] }
-    ∷ record { table = level-1-in-47-rounds; says = prints "answer=12\nline=0\n" ∷ printsRow 92 "answer=12\nline=0\n" ∷ [] }
+    ∷ record { table = level-1-in-46-rounds; says = prints "answer=12\nline=0\ncolumn=0\n" ∷ printsRow 0 "answer=12\nline=0\ncolumn=0\n" ∷ [] }
+    ∷ record { table = level-1-in-47-rounds; says = prints "answer=12\nline=0\ncolumn=0\n" ∷ printsRow 92 "answer=12\nline=0\ncolumn=0\n" ∷ [] }
     ∷ record { table = two-graphs; says = prints "answer=0\nround=1\nticks=4\nresponse=1\nresponse=2\n" ∷ [] }
     ∷ record { table = two-offsets; says = prints "answer=0\nround=1\nticks=9\nresponse=2\nresponse=6\n" ∷ [] }
-    ∷ record { table = period-2¹⁶+4; says = prints "answer=3\nline=4\n" ∷ [] }
-    ∷ record { table = period-2³²+4; says = prints "answer=3\nline=4\n" ∷ [] }
-    ∷ record { table = period-2⁶⁴+4; says = prints "answer=3\nline=4\n" ∷ [] }
+    ∷ record { table = period-2¹⁶+4; says = prints "answer=3\nline=4\ncolumn=8\n" ∷ [] }
+    ∷ record { table = period-2³²+4; says = prints "answer=3\nline=4\ncolumn=8\n" ∷ [] }
+    ∷ record { table = period-2⁶⁴+4; says = prints "answer=3\nline=4\ncolumn=8\n" ∷ [] }
     ∷ []

@@ -30,5 +30,8 @@ longestReport = longestLine (bytes "answer") + longestLine (bytes "round") + lon
 abbrev pub longestRow : ℕ
 longestRow = Limits.processors .to * longestRun
 
+abbrev pub longestPlace : ℕ
+longestPlace = longestLine (bytes "line") + longestLine (bytes "column")
+
 abbrev pub longestRefusal : ℕ
-longestRefusal = longestLine (bytes "answer") + longestLine (bytes "line")
+longestRefusal = longestLine (bytes "answer") + longestPlace

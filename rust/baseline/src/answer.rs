@@ -5,11 +5,13 @@
 pub struct Answer {
     pub number: u32,
     pub line: u32,
+    pub column: u32,
     pub length: usize,
 }
 
 impl Answer {
-    pub fn refusal(number: u32, line: u32) -> Answer {
-        Answer { number, line, length: 0 }
+    /// A refusal that is no line's fault.
+    pub fn refusal(number: u32) -> Answer {
+        Answer { number, line: 0, column: 0, length: 0 }
     }
 }

@@ -34,8 +34,8 @@ pub fn report(pace: Pace, table: &[u8], buffer: &mut [u8]) -> Answer {
     };
     match end {
         End::Settled { round } => lend(&writer::report(round, ticks, &figures[..table.graph_count]), buffer),
-        End::Unsettled => Answer::refusal(8, 0),
-        End::Backlog | End::Asked => Answer::refusal(7, 0),
+        End::Unsettled => Answer::refusal(8),
+        End::Backlog | End::Asked => Answer::refusal(7),
     }
 }
 
@@ -45,7 +45,7 @@ pub fn row(pace: Pace, table: &[u8], instant: u64, buffer: &mut [u8]) -> Answer 
         Err(refusal) => return refusal,
     };
     // No walk reaches an instant that needs more than 32 bits.
-    let Ok(asked) = u32::try_from(instant) else { return Answer::refusal(9, 0) };
+    let Ok(asked) = u32::try_from(instant) else { return Answer::refusal(9) };
     let (end, text) = match pace {
         Pace::Tuned => {
             let mut tuned = Tuned::new(&table);
@@ -60,7 +60,7 @@ pub fn row(pace: Pace, table: &[u8], instant: u64, buffer: &mut [u8]) -> Answer 
     };
     match end {
         End::Asked => lend(&text, buffer),
-        _ => Answer::refusal(9, 0),
+        _ => Answer::refusal(9),
     }
 }
 
@@ -74,12 +74,12 @@ fn walk_at(pace: Pace, engine: &mut Engine, hyperperiod: u32, asked: Option<u32>
 /// Refusals 1 to 6 and 12.
 fn judge(bytes: &[u8]) -> Result<(Table, u32), Answer> {
     let table = crate::reader::read(bytes)?;
-    let hyperperiod = table.hyperperiod().ok_or(Answer::refusal(5, 0))?;
+    let hyperperiod = table.hyperperiod().ok_or(Answer::refusal(5))?;
     if !table.is_loadable(hyperperiod) {
-        return Err(Answer::refusal(6, 0));
+        return Err(Answer::refusal(6));
     }
     if !table.keeps_up() {
-        return Err(Answer::refusal(12, 0));
+        return Err(Answer::refusal(12));
     }
     Ok((table, hyperperiod))
 }
@@ -88,10 +88,10 @@ fn judge(bytes: &[u8]) -> Result<(Table, u32), Answer> {
 fn lend(text: &Text, buffer: &mut [u8]) -> Answer {
     let text = text.bytes();
     match buffer.get_mut(..text.len()) {
-        None => Answer::refusal(10, 0),
+        None => Answer::refusal(10),
         Some(part) => {
             part.copy_from_slice(text);
-            Answer { number: 0, line: 0, length: text.len() }
+            Answer { number: 0, line: 0, column: 0, length: text.len() }
         }
     }
 }

@@ -21,9 +21,9 @@ const TOO_LARGE: u32 = 1_000_000;
 
 pub fn read(bytes: &[u8]) -> Result<Table, Answer> {
     if bytes.len() > Table::BYTES {
-        return Err(Answer::refusal(1, 0));
+        return Err(Answer::refusal(1));
     }
-    let mut reader = Reader { bytes, position: 0, line: 0 };
+    let mut reader = Reader { bytes, position: 0, line: 0, start: 0 };
     let mut table = Table::empty();
     table.processors = reader.number_line(PROCESSORS)?;
     table.rounds = reader.number_line(ROUNDS)?;
@@ -32,21 +32,29 @@ pub fn read(bytes: &[u8]) -> Result<Table, Answer> {
         reader.graph(&mut table, index)?;
     }
     if reader.position < bytes.len() {
-        return Err(Answer::refusal(2, reader.line + 1));
+        reader.begin(b"")?;
+        return reader.refuse(2);
     }
     Ok(table)
 }
 
-/// The lent bytes, the position reached and the number of the current line.
+/// The lent bytes, the position reached, the number of the current line and where it starts.
 struct Reader<'a> {
     bytes: &'a [u8],
     position: usize,
     line: u32,
+    start: usize,
 }
 
 impl Reader<'_> {
+    /// At fault is what stands at the position reached.
     fn refuse<T>(&self, number: u32) -> Result<T, Answer> {
-        Err(Answer::refusal(number, self.line))
+        self.refuse_at(number, self.position)
+    }
+
+    fn refuse_at<T>(&self, number: u32, position: usize) -> Result<T, Answer> {
+        let column = (position - self.start) as u32 + 1;
+        Err(Answer { number, line: self.line, column, length: 0 })
     }
 
     fn graph(&mut self, table: &mut Table, index: usize) -> Result<(), Answer> {
@@ -55,7 +63,7 @@ impl Reader<'_> {
         let nodes = self.number_line(NODES)? as usize;
         let first = table.node_count;
         if first + nodes > Table::NODES {
-            return self.refuse(3);
+            return self.refuse_at(3, self.start + NODES.0.len());
         }
         table.node_count += nodes;
         table.graphs[index] = Graph { period, offset, first, nodes };
@@ -67,21 +75,21 @@ impl Reader<'_> {
             without_successor &= !after;
             table.nodes[first + own] = Node { budget, level, after };
         }
-        if without_successor != 0 { self.refuse(4) } else { Ok(()) }
+        if without_successor != 0 { self.refuse_at(4, self.start) } else { Ok(()) }
     }
 
-    /// Moves past `expected`, if it stands at the position.
+    /// Moves past as much of `expected` as stands at the position, and says whether that was all of it.
     fn take(&mut self, expected: &[u8]) -> bool {
-        let stands = self.bytes[self.position..].starts_with(expected);
-        if stands {
-            self.position += expected.len();
-        }
-        stands
+        let there = self.bytes[self.position..].iter().zip(expected);
+        let shared = there.take_while(|(byte, other)| byte == other).count();
+        self.position += shared;
+        shared == expected.len()
     }
 
     /// Begins the next line with its key.
     fn begin(&mut self, key: &[u8]) -> Result<(), Answer> {
         self.line += 1;
+        self.start = self.position;
         if self.take(key) { Ok(()) } else { self.refuse(2) }
     }
 
@@ -91,38 +99,45 @@ impl Reader<'_> {
         if !self.take(b"\n") {
             return self.refuse(2);
         }
-        if value < least || value > largest { self.refuse(3) } else { Ok(value) }
+        if value < least || value > largest { self.refuse_at(3, self.start + key.len()) } else { Ok(value) }
     }
 
-    /// Digits with no leading zero; a value too large stays too large.
+    /// Digits; a 0 at their start is the whole number, and a value too large stays too large.
     fn number(&mut self) -> Option<u32> {
         let start = self.position;
         let mut value = 0;
         while let Some(digit) = self.bytes.get(self.position).filter(|byte| byte.is_ascii_digit()) {
             value = (value * 10 + u32::from(digit - b'0')).min(TOO_LARGE);
             self.position += 1;
+            if value == 0 {
+                break;
+            }
         }
-        let digits = &self.bytes[start..self.position];
-        let well_spelled = !digits.is_empty() && (digits.len() == 1 || digits[0] != b'0');
-        well_spelled.then_some(value)
+        (self.position > start).then_some(value)
     }
 
     /// The mask of predecessors of the node at place `own` in its graph.
     fn after_line(&mut self, own: u32) -> Result<u32, Answer> {
         self.begin(AFTER)?;
-        if self.take(b"none\n") {
-            return if own == 0 { Ok(0) } else { self.refuse(4) };
-        }
-        let (mut mask, mut last, mut kept) = (0, 0, true);
-        loop {
-            let Some(number) = self.number() else { return self.refuse(2) };
-            kept &= number > last && number <= own;
-            if kept {
-                mask |= 1 << (number - 1);
+        let first = self.position;
+        if self.bytes.get(first) == Some(&b'n') {
+            if !self.take(b"none\n") {
+                return self.refuse(2);
             }
-            last = number;
+            return if own == 0 { Ok(0) } else { self.refuse_at(4, first) };
+        }
+        let (mut mask, mut last, mut fault) = (0, 0, None);
+        loop {
+            let start = self.position;
+            let Some(number) = self.number() else { return self.refuse(2) };
+            if fault.is_none() && number > last && number <= own {
+                mask |= 1 << (number - 1);
+                last = number;
+            } else {
+                fault = fault.or(Some(start));
+            }
             if self.take(b"\n") {
-                return if kept { Ok(mask) } else { self.refuse(4) };
+                return fault.map_or(Ok(mask), |position| self.refuse_at(4, position));
             }
             if !self.take(b",") {
                 return self.refuse(2);

@@ -106,10 +106,13 @@ fn short_buffers_are_refused_and_left() {
         for short in 0..length {
             let mut buffer = vec![0xee; short];
             let answer = report(pace, table.as_bytes(), &mut buffer);
-            assert_eq!(answer, Answer { number: 10, line: 0, length: 0 });
+            assert_eq!(answer, Answer { number: 10, line: 0, column: 0, length: 0 });
             assert!(buffer.iter().all(|&byte| byte == 0xee));
         }
         let mut exact = vec![0xee; length];
-        assert_eq!(report(pace, table.as_bytes(), &mut exact), Answer { number: 0, line: 0, length });
+        assert_eq!(
+            report(pace, table.as_bytes(), &mut exact),
+            Answer { number: 0, line: 0, column: 0, length }
+        );
     }
 }

@@ -18,7 +18,7 @@ fn the_largest_walks_are_the_largest() {
     }
     let Reply::Text(text) = report(&largest()[0].text) else { panic!("no answer") };
     assert!(text.starts_with(b"answer=0\nround=64\nticks=1290000\n"));
-    assert_eq!(report(&largest()[1].text), Reply::Refused { number: 8, line: 0 });
+    assert_eq!(report(&largest()[1].text), Reply::Refused { number: 8, line: 0, column: 0 });
 }
 
 #[test]
@@ -64,5 +64,5 @@ fn documents_tables_are_walked() {
     let walked: Vec<u32> = document().iter().map(ticks).collect();
     assert_eq!(walked, [4, 8, 8, 8, 4, 4, 9, 10_000, 729]);
     let last = document().pop().expect("a table");
-    assert_eq!(report(&last.text), Reply::Refused { number: 7, line: 0 });
+    assert_eq!(report(&last.text), Reply::Refused { number: 7, line: 0, column: 0 });
 }

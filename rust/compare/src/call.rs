@@ -70,8 +70,8 @@ impl fmt::Display for Difference {
 
 impl fmt::Display for Outcome {
     fn fmt(&self, out: &mut fmt::Formatter) -> fmt::Result {
-        let Answer { number, line, length } = self.answer;
-        write!(out, "number {number}, line {line}, length {length}, ")?;
+        let Answer { number, line, column, length } = self.answer;
+        write!(out, "number {number}, line {line}, column {column}, length {length}, ")?;
         let end = self.bytes.len() - GUARD;
         write!(out, "buffer \"{}\"", self.bytes[GUARD..end].escape_ascii())?;
         let clean = untouched(end - GUARD);

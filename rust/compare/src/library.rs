@@ -23,13 +23,13 @@ impl Library for Plain {
     }
 
     fn report(&self, table: &[u8], buffer: &mut [u8]) -> Answer {
-        let baseline::Answer { number, line, length } = baseline::report(self.0, table, buffer);
-        Answer { number, line, length }
+        let baseline::Answer { number, line, column, length } = baseline::report(self.0, table, buffer);
+        Answer { number, line, column, length }
     }
 
     fn row(&self, table: &[u8], instant: u64, buffer: &mut [u8]) -> Answer {
-        let baseline::Answer { number, line, length } = baseline::row(self.0, table, instant, buffer);
-        Answer { number, line, length }
+        let baseline::Answer { number, line, column, length } = baseline::row(self.0, table, instant, buffer);
+        Answer { number, line, column, length }
     }
 }
 
@@ -44,13 +44,13 @@ impl Library for Proved {
     }
 
     fn report(&self, table: &[u8], buffer: &mut [u8]) -> Answer {
-        let phalandrix::Answer { number, line, length } = phalandrix::report(table, buffer);
-        Answer { number, line, length }
+        let phalandrix::Answer { number, line, column, length } = phalandrix::report(table, buffer);
+        Answer { number, line, column, length }
     }
 
     fn row(&self, table: &[u8], instant: u64, buffer: &mut [u8]) -> Answer {
-        let phalandrix::Answer { number, line, length } = phalandrix::row(table, instant, buffer);
-        Answer { number, line, length }
+        let phalandrix::Answer { number, line, column, length } = phalandrix::row(table, instant, buffer);
+        Answer { number, line, column, length }
     }
 }
 

@@ -112,7 +112,7 @@ fn wrong_row_at_one_instant() {
 fn refusal_given_too_often() {
     let (table, _) = found(|_, table, _, answer| {
         let twelve = table.windows(9).any(|part| part == b"period=12");
-        if twelve { Answer { number: 6, line: 0, length: 0 } } else { answer }
+        if twelve { Answer { number: 6, line: 0, column: 0, length: 0 } } else { answer }
     });
     assert!(table.contains("period=12"), "{table}");
     assert!(table.lines().count() <= 9, "{table}");
@@ -136,6 +136,6 @@ fn fault_shows_the_table_and_both_answers() {
     let options = Options { seed: 1, count: 2_000, force: 0, ..Options::default() };
     let shown = run(&Spoilt(spoil), &options).expect_err("a fault").to_string();
     assert!(shown.contains("    processors="), "{shown}");
-    assert!(shown.contains("second simulator: number 8, line 0, length 0"), "{shown}");
-    assert!(shown.contains("library:          number 9, line 0, length 0"), "{shown}");
+    assert!(shown.contains("second simulator: number 8, line 0, column 0, length 0"), "{shown}");
+    assert!(shown.contains("library:          number 9, line 0, column 0, length 0"), "{shown}");
 }

@@ -6,8 +6,8 @@
 
 use crate::refusal::Refusal;
 
-/// What a call returns: number 0, line 0 and the length of the text; or the number of a refusal, its
-/// line (0 where it has none) and length 0.
+/// What a call returns: number, line and column 0 and the length of the text; or the number of a
+/// refusal, its line and its column (0 where it has none) and length 0.
 #[repr(C)]
 #[derive(Clone, Copy, Debug, PartialEq, Eq)]
 #[must_use = "it may be a refusal"]
@@ -16,6 +16,8 @@ pub struct Answer {
     pub number: u32,
     /// The line of the table that is refused, or 0.
     pub line: u32,
+    /// The column at fault in that line, counted in bytes from 1; or 0.
+    pub column: u32,
     /// The bytes of text written.
     pub length: usize,
 }
@@ -29,7 +31,7 @@ impl Answer {
     pub fn result(self) -> Result<usize, Refusal> {
         match self.number {
             0 => Ok(self.length),
-            number => Err(Refusal::new(number, self.line)),
+            number => Err(Refusal::new(number, self.line, self.column)),
         }
     }
 }

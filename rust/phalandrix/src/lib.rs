@@ -16,7 +16,8 @@
 //! assert_eq!((run.graph, run.node, run.server_job, run.invocation), (1, 2, 2, Some(1)));
 //!
 //! let refusal = phalandrix::report_of(b"processors=9\n").unwrap_err();
-//! assert_eq!((refusal.reason, refusal.line), (phalandrix::Reason::OutsideLimits, 1));
+//! assert_eq!((refusal.reason, refusal.line, refusal.column), (phalandrix::Reason::OutsideLimits, 1, 12));
+//! assert!(refusal.in_table(b"processors=9\n").to_string().ends_with("\n  processors=9\n             ^"));
 //! # Ok::<(), phalandrix::Refusal>(())
 //! ```
 //!
@@ -33,6 +34,6 @@ mod rows;
 mod text;
 
 pub use calls::{Answer, report, row};
-pub use refusal::{REPORT_BYTES, ROW_BYTES, Reason, Refusal, STACK_BYTES, VERSION};
+pub use refusal::{InTable, REPORT_BYTES, ROW_BYTES, Reason, Refusal, STACK_BYTES, VERSION};
 pub use reports::{Report, report_of};
 pub use rows::{Row, Run, row_at};

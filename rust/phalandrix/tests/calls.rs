@@ -9,7 +9,7 @@ const REPORT: &[u8] = b"answer=0\nround=2\nticks=8\nresponse=6\n";
 #[test]
 fn report_is_written_and_the_rest_left() {
     let mut buffer = [0xee; REPORT_BYTES];
-    assert_eq!(report(TABLE, &mut buffer), Answer { number: 0, line: 0, length: REPORT.len() });
+    assert_eq!(report(TABLE, &mut buffer), Answer { number: 0, line: 0, column: 0, length: REPORT.len() });
     assert_eq!(&buffer[..REPORT.len()], REPORT);
     assert!(buffer[REPORT.len()..].iter().all(|&byte| byte == 0xee));
 }
@@ -17,24 +17,24 @@ fn report_is_written_and_the_rest_left() {
 #[test]
 fn short_buffer_is_refused_and_left() {
     let mut buffer = [0xee; REPORT.len() - 1];
-    assert_eq!(report(TABLE, &mut buffer), Answer { number: 10, line: 0, length: 0 });
+    assert_eq!(report(TABLE, &mut buffer), Answer { number: 10, line: 0, column: 0, length: 0 });
     assert!(buffer.iter().all(|&byte| byte == 0xee));
 }
 
 #[test]
 fn rows_and_refusals_come_through() {
     let mut buffer = [0xee; ROW_BYTES];
-    assert_eq!(row(TABLE, 5, &mut buffer), Answer { number: 0, line: 0, length: 12 });
+    assert_eq!(row(TABLE, 5, &mut buffer), Answer { number: 0, line: 0, column: 0, length: 12 });
     assert_eq!(&buffer[..12], b"run=1,2,2,1\n");
-    assert_eq!(row(TABLE, 2, &mut buffer), Answer { number: 0, line: 0, length: 0 });
-    assert_eq!(row(TABLE, 8, &mut buffer), Answer { number: 9, line: 0, length: 0 });
-    assert_eq!(row(TABLE, u64::MAX, &mut buffer), Answer { number: 9, line: 0, length: 0 });
+    assert_eq!(row(TABLE, 2, &mut buffer), Answer { number: 0, line: 0, column: 0, length: 0 });
+    assert_eq!(row(TABLE, 8, &mut buffer), Answer { number: 9, line: 0, column: 0, length: 0 });
+    assert_eq!(row(TABLE, u64::MAX, &mut buffer), Answer { number: 9, line: 0, column: 0, length: 0 });
 }
 
 /// An empty slice's pointer is dangling; the library must not read it.
 #[test]
 fn empty_table_and_empty_buffer() {
-    assert_eq!(report(&[], &mut []), Answer { number: 2, line: 1, length: 0 });
-    assert_eq!(row(TABLE, 2, &mut []), Answer { number: 0, line: 0, length: 0 });
-    assert_eq!(report(&[b'x'; 4097], &mut []), Answer { number: 1, line: 0, length: 0 });
+    assert_eq!(report(&[], &mut []), Answer { number: 2, line: 1, column: 1, length: 0 });
+    assert_eq!(row(TABLE, 2, &mut []), Answer { number: 0, line: 0, column: 0, length: 0 });
+    assert_eq!(report(&[b'x'; 4097], &mut []), Answer { number: 1, line: 0, column: 0, length: 0 });
 }

@@ -34,14 +34,27 @@ fn row_as_values() -> Result<(), Box<dyn Error>> {
 #[test]
 fn refusals_as_values() {
     let refusal = report_of(b"processors=1\nrounds=0\n").unwrap_err();
-    assert_eq!((refusal.reason, refusal.line), (Reason::OutsideLimits, 2));
+    assert_eq!((refusal.reason, refusal.line, refusal.column), (Reason::OutsideLimits, 2, 8));
     assert!(
-        refusal.to_string().starts_with("line 2: refusal 3: a number is outside its limits"),
+        refusal.to_string().starts_with("line 2, column 8: refusal 3: a number is outside its limits"),
         "{refusal}"
     );
     let refusal = row_at(TABLE, 8).unwrap_err();
-    assert_eq!((refusal.reason, refusal.line), (Reason::PastTheStop, 0));
+    assert_eq!((refusal.reason, refusal.line, refusal.column), (Reason::PastTheStop, 0, 0));
     assert!(refusal.to_string().starts_with("refusal 9: the instant asked is"), "{refusal}");
+}
+
+/// The line's text and a mark under the column, where there is such a line.
+#[test]
+fn refusals_beside_their_table() {
+    let shown = |table: &[u8]| report_of(table).unwrap_err().in_table(table).to_string();
+    assert!(shown(b"processors=1\nrounds=02\n").ends_with("\n  rounds=02\n          ^"));
+    assert!(shown(b"processors=1\nrounds\0=2\n").ends_with("\n  rounds?=2\n        ^"));
+    assert!(shown(b"processors=1\nrounds").ends_with("\n  rounds\n        ^"));
+    assert!(!shown(b"processors=1\n").contains('^'), "an absent line");
+    assert!(!shown(&[b'x'; 5000]).contains('^'), "no line's fault");
+    let long = [&b"processors="[..], &[b'1'; 100], b"x\n"].concat();
+    assert!(shown(&long).ends_with(&format!("\n  {}x\n  {}^", "1".repeat(79), " ".repeat(79))));
 }
 
 /// The list that the build script made of the header's.

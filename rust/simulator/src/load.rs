@@ -9,13 +9,13 @@ use crate::table::Table;
 pub fn judge(table: &Table) -> Result<u32, Refusal> {
     let hyperperiod = hyperperiod(table);
     if hyperperiod > u128::from(limits::HYPERPERIOD) {
-        return Err(Refusal { number: 5, line: 0 });
+        return Err(Refusal { number: 5, line: 0, column: 0 });
     }
     if load(table, hyperperiod) > u128::from(table.processors) * hyperperiod {
-        return Err(Refusal { number: 6, line: 0 });
+        return Err(Refusal { number: 6, line: 0, column: 0 });
     }
     if !keeps_up(table) {
-        return Err(Refusal { number: 12, line: 0 });
+        return Err(Refusal { number: 12, line: 0, column: 0 });
     }
     Ok(hyperperiod as u32)
 }

@@ -40,15 +40,15 @@ pub fn judge(bytes: &[u8]) -> Result<(Table, u32), Refusal> {
 /// The report of a walk, or refusals 7 and 8.
 fn report_of(walk: &Walk) -> Reply {
     match walk.stop {
-        Stop::Backlog => Reply::Refused { number: 7, line: 0 },
-        Stop::Unsettled => Reply::Refused { number: 8, line: 0 },
+        Stop::Backlog => Reply::Refused { number: 7, line: 0, column: 0 },
+        Stop::Unsettled => Reply::Refused { number: 8, line: 0, column: 0 },
         Stop::Settled { round } => Reply::Text(text::report(round, walk.ticks, &walk.figures)),
     }
 }
 
 /// The row seen before the stop, or refusal 9.
 fn row_of(row: Option<Vec<u8>>) -> Reply {
-    row.map_or(Reply::Refused { number: 9, line: 0 }, Reply::Text)
+    row.map_or(Reply::Refused { number: 9, line: 0, column: 0 }, Reply::Text)
 }
 
 /// Both calls on one table, its walk walked once and every row kept.

@@ -1,4 +1,4 @@
-//! Reads a table from bytes, with refusals 1 to 4 and their lines.
+//! Reads a table from bytes, with refusals 1 to 4, their lines and their columns.
 //!
 //! Lines are judged in order, each first for 2, then for 3 or 4.
 
@@ -9,7 +9,7 @@ use crate::table::{Graph, Node, Table};
 /// The table these bytes spell, or the first refusal among 1 to 4.
 pub fn read(bytes: &[u8]) -> Result<Table, Refusal> {
     if bytes.len() > limits::TABLE_BYTES {
-        return Err(Refusal { number: 1, line: 0 });
+        return Err(Refusal { number: 1, line: 0, column: 0 });
     }
     let mut lines = Lines { rest: bytes, line: 0 };
     let processors = lines.number("processors", limits::PROCESSORS)?;
@@ -30,7 +30,7 @@ fn read_graph(lines: &mut Lines, node_total: &mut u32) -> Result<Graph, Refusal>
     let count = lines.number("nodes", limits::NODES)?;
     *node_total += count;
     if *node_total > limits::ALL_NODES {
-        return Err(lines.refusal(3));
+        return Err(lines.refusal(3, value_column("nodes")));
     }
     let mut nodes = Vec::new();
     for number in 1..=count {
@@ -41,7 +41,7 @@ fn read_graph(lines: &mut Lines, node_total: &mut u32) -> Result<Graph, Refusal>
     }
     if !every_node_but_the_last_has_a_successor(&nodes) {
         // `lines` still stands on the graph's last line.
-        return Err(lines.refusal(4));
+        return Err(lines.refusal(4, 1));
     }
     Ok(Graph { period, offset, nodes })
 }
@@ -57,51 +57,77 @@ struct Lines<'a> {
 }
 
 impl<'a> Lines<'a> {
-    fn refusal(&self, number: u32) -> Refusal {
-        Refusal { number, line: self.line }
+    fn refusal(&self, number: u32, column: usize) -> Refusal {
+        Refusal { number, line: self.line, column: column as u32 }
     }
 
-    /// The value on the next line, which must be `key=value` and LF.
-    fn value(&mut self, key: &str) -> Result<&'a [u8], Refusal> {
+    /// The value on the next line, which must be the key, `=`, a value of this spelling and LF. Else at
+    /// fault is the first byte that no such line has after the bytes before it, or the end of the bytes.
+    fn value(&mut self, key: &str, spelled: Spelling) -> Result<&'a [u8], Refusal> {
         self.line += 1;
-        let Some(end) = self.rest.iter().position(|&byte| byte == b'\n') else {
-            return Err(self.refusal(2));
-        };
-        let (line, rest) = (&self.rest[..end], &self.rest[end + 1..]);
+        let end = self.rest.iter().position(|&byte| byte == b'\n').map_or(self.rest.len(), |at| at + 1);
+        let (line, rest) = self.rest.split_at(end);
         self.rest = rest;
-        line.strip_prefix(key.as_bytes()).and_then(|equals| equals.strip_prefix(b"=")).ok_or(self.refusal(2))
+        let shared = |length: &usize| begins_a_line(&line[..*length], key, spelled);
+        let longest = (0..=line.len()).rev().find(shared).expect("every line begins with no byte");
+        value_of(line, key, spelled).ok_or(self.refusal(2, longest + 1))
     }
 
     /// The number on the next line: spelling first (2), then limits (3).
     fn number(&mut self, key: &str, limit: Limit) -> Result<u32, Refusal> {
-        let digits = self.value(key)?;
-        if !is_number(digits) {
-            return Err(self.refusal(2));
-        }
-        number_within(digits, limit).ok_or(self.refusal(3))
+        let digits = self.value(key, is_number)?;
+        number_within(digits, limit).ok_or(self.refusal(3, value_column(key)))
     }
 
-    /// The predecessors of node `number`: spelling first (2), then rules (4).
+    /// The predecessors of node `number`: spelling first (2), then rules (4). Node 1 has `none` and no
+    /// other node has; the list rises strictly, from 1 on, below the node's own number.
     fn after(&mut self, number: u32) -> Result<Vec<u32>, Refusal> {
-        let value = self.value("after")?;
-        let after = if value == b"none" {
-            Some(Vec::new())
-        } else {
-            let parts: Vec<&[u8]> = value.split(|&byte| byte == b',').collect();
-            if !parts.iter().all(|digits| is_number(digits)) {
-                return Err(self.refusal(2));
-            }
-            let earlier = Limit { from: 1, to: number - 1 };
-            parts.iter().map(|digits| number_within(digits, earlier)).collect()
-        };
-        after.filter(|after| keeps_predecessor_rules(after, number)).ok_or(self.refusal(4))
+        let value = self.value("after", is_list)?;
+        let mut column = value_column("after");
+        if value == b"none" {
+            return if number == 1 { Ok(Vec::new()) } else { Err(self.refusal(4, column)) };
+        }
+        let mut after = Vec::new();
+        for digits in value.split(|&byte| byte == b',') {
+            let fair = Limit { from: after.last().unwrap_or(&0) + 1, to: number - 1 };
+            after.push(number_within(digits, fair).ok_or(self.refusal(4, column))?);
+            column += digits.len() + 1;
+        }
+        Ok(after)
     }
 
     /// No byte may follow the last line; those that do stand on the next.
     fn end(&mut self) -> Result<(), Refusal> {
         self.line += 1;
-        if self.rest.is_empty() { Ok(()) } else { Err(self.refusal(2)) }
+        if self.rest.is_empty() { Ok(()) } else { Err(self.refusal(2, 1)) }
     }
+}
+
+/// Whether bytes are a value that is well spelled.
+type Spelling = fn(&[u8]) -> bool;
+
+/// The column of a value's first byte: behind the key and `=`.
+fn value_column(key: &str) -> usize {
+    key.len() + 2
+}
+
+/// The value of a line that is the key, `=`, a value of this spelling and LF.
+fn value_of<'a>(line: &'a [u8], key: &str, spelled: Spelling) -> Option<&'a [u8]> {
+    let value = line.strip_prefix(key.as_bytes())?.strip_prefix(b"=")?.strip_suffix(b"\n")?;
+    spelled(value).then_some(value)
+}
+
+/// Whether some such line begins with these bytes: then one with one of a few endings does.
+fn begins_a_line(beginning: &[u8], key: &str, spelled: Spelling) -> bool {
+    let heading = [key.as_bytes(), b"="].concat();
+    let endings: [&[u8]; 7] = [b"", b"\n", b"0\n", b"none\n", b"one\n", b"ne\n", b"e\n"];
+    let ends = |ending: &&[u8]| value_of(&[beginning, ending].concat(), key, spelled).is_some();
+    heading.starts_with(beginning) || endings.iter().any(ends)
+}
+
+/// `none`, or numbers parted by single commas.
+fn is_list(value: &[u8]) -> bool {
+    value == b"none" || value.split(|&byte| byte == b',').all(is_number)
 }
 
 /// Decimal digits with no leading zero; `0` itself is a number.
@@ -119,9 +145,4 @@ fn number_within(digits: &[u8], limit: Limit) -> Option<u32> {
     }
     let value = digits.iter().fold(0, |value, digit| value * 10 + u32::from(digit - b'0'));
     limit.holds(value).then_some(value)
-}
-
-/// Node 1 has `none` and no other node has; the list rises strictly.
-fn keeps_predecessor_rules(after: &[u32], number: u32) -> bool {
-    after.is_empty() == (number == 1) && after.windows(2).all(|pair| pair[0] < pair[1])
 }

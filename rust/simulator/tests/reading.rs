@@ -9,11 +9,12 @@ const GOOD: &str = "processors=2\nrounds=64\ngraphs=2\nperiod=6\noffset=1\nnodes
     budget=1\nlevel=1\nafter=none\nbudget=2\nlevel=2\nafter=1\nbudget=1\nlevel=4\nafter=1,2\n\
     period=12\noffset=0\nnodes=1\nbudget=3\nlevel=1\nafter=none\n";
 
-/// Asserts a refusal of both calls.
+/// Asserts a refusal of both calls, in whatever column.
 fn refuses(table: &[u8], number: u32, line: u32) {
-    let shown = String::from_utf8_lossy(table);
-    assert_eq!(report(table), refused(number, line), "report of {shown}");
-    assert_eq!(row(table, 0), refused(number, line), "row of {shown}");
+    for reply in [report(table), row(table, 0)] {
+        let Reply::Refused { number: told, line: at, .. } = reply else { panic!("answered: {reply:?}") };
+        assert_eq!((told, at), (number, line), "{}", String::from_utf8_lossy(table));
+    }
 }
 
 /// GOOD with one of its lines, numbered from 1, put in place of the old one.

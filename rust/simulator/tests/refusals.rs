@@ -82,7 +82,7 @@ fn rows_of_each_call_before_and_at_the_stop() {
 /// The call with each buffer length, and every byte of the buffer after it.
 #[test]
 fn lent_buffers_of_every_length() {
-    let replies = [text("answer=0\nround=1\n"), text(""), refused(4, 17), refused(9, 0)];
+    let replies = [text("answer=0\nround=1\n"), text(""), refused_at(4, 17, 9), refused(9, 0)];
     for reply in &replies {
         for length in 0..40 {
             let before: Vec<u8> = (0..length).map(|at| 200 + at as u8).collect();
@@ -90,16 +90,16 @@ fn lent_buffers_of_every_length() {
             let answer = lend(reply, &mut buffer);
             match reply {
                 Reply::Text(text) if text.len() <= length => {
-                    assert_eq!(answer, Answer { number: 0, line: 0, length: text.len() });
+                    assert_eq!(answer, Answer { number: 0, line: 0, column: 0, length: text.len() });
                     assert_eq!(&buffer[..text.len()], &text[..]);
                     assert_eq!(buffer[text.len()..], before[text.len()..]);
                 }
                 Reply::Text(_) => {
-                    assert_eq!(answer, Answer { number: 10, line: 0, length: 0 });
+                    assert_eq!(answer, Answer { number: 10, line: 0, column: 0, length: 0 });
                     assert_eq!(buffer, before);
                 }
-                Reply::Refused { number, line } => {
-                    assert_eq!(answer, Answer { number: *number, line: *line, length: 0 });
+                &Reply::Refused { number, line, column } => {
+                    assert_eq!(answer, Answer { number, line, column, length: 0 });
                     assert_eq!(buffer, before);
                 }
             }

@@ -10,7 +10,9 @@ use std::path::Path;
 fn printed(reply: Reply) -> String {
     match reply {
         Reply::Text(text) => String::from_utf8(text).expect("text of an answer"),
-        Reply::Refused { number, line } => format!("answer={number}\nline={line}\n"),
+        Reply::Refused { number, line, column } => {
+            format!("answer={number}\nline={line}\ncolumn={column}\n")
+        }
     }
 }
 

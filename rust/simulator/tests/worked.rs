@@ -94,14 +94,14 @@ fn two_graphs_with_an_offset() {
 
 #[test]
 fn empty_table() {
-    assert_eq!(report(b""), refused(2, 1));
-    assert_eq!(row(b"", 0), refused(2, 1));
+    assert_eq!(report(b""), refused_at(2, 1, 1));
+    assert_eq!(row(b"", 0), refused_at(2, 1, 1));
 }
 
 #[test]
 fn period_at_its_limit_and_past_it() {
     assert_eq!(report(&bytes(1, 64, vec![chain(10_000, 0, &[1])])), figures(1, 10_000, &[1]));
-    assert_eq!(report(&bytes(1, 64, vec![chain(10_001, 0, &[1])])), refused(3, 4));
+    assert_eq!(report(&bytes(1, 64, vec![chain(10_001, 0, &[1])])), refused_at(3, 4, 8));
 }
 
 #[test]

@@ -26,8 +26,13 @@ pub fn bytes(processors: u32, rounds: u32, graphs: Vec<Graph>) -> Vec<u8> {
     table(processors, rounds, graphs).text().into_bytes()
 }
 
+/// A refusal without a column.
 pub fn refused(number: u32, line: u32) -> Reply {
-    Reply::Refused { number, line }
+    refused_at(number, line, 0)
+}
+
+pub fn refused_at(number: u32, line: u32, column: u32) -> Reply {
+    Reply::Refused { number, line, column }
 }
 
 pub fn text(text: &str) -> Reply {

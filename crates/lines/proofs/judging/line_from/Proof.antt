@@ -7,7 +7,7 @@ use borrow.Author.Needs.{needs}
 use borrow.Author.Tests.{eq-eqb, ne-eqb}
 use Rattle.format.specs.Keys as Keys
 use Rattle.scanning.specs.Positions.{foundOf}
-use Rattle.lines.proofs.LineLaws.{headless}
+use Rattle.lines.proofs.LineLaws.{value-read, headless}
 use Rattle.lines.proofs.judging.line_from.Statement.{statement}
 use Rattle.lines.proofs.judging.line_from.Tie as tie
 
@@ -37,14 +37,14 @@ returns-2 c =
     let a = c .before .before .before .before .before .before .before .args in
     let s = now (a .s) in
     let e = sym (ap (foundOf s) (c .before .before .before .p2 .given .1)) ∙ c .before .before .before .before .before .heading-at .ensures in
-    rw (eq-eqb (a .k) Keys.after (c .before .if1 .taken), ← e) (c .list-value .ensures)
+    rw (eq-eqb (a .k) Keys.after (c .before .if1 .taken), value-read (a .k) (drop (a .at) s) _ e, ← e) (c .list-value .ensures)
 
 returns-3 : tie.Need-returns-3
 returns-3 c =
     let a = c .before .before .before .before .before .before .before .args in
     let s = now (a .s) in
     let e = sym (ap (foundOf s) (c .before .before .before .p2 .given .1)) ∙ c .before .before .before .before .before .heading-at .ensures in
-    rw (ne-eqb (a .k) Keys.after (c .before .if1 .left), ← e) (c .number-value .ensures)
+    rw (ne-eqb (a .k) Keys.after (c .before .if1 .left), value-read (a .k) (drop (a .at) s) _ e, ← e) (c .number-value .ensures)
 
 pub line-from-spec : {M : Type 1} → statement M
 line-from-spec =

@@ -48,8 +48,8 @@ returns-2 c =
     let range = keyAt (a .k) .range in
     let (w, e, f) = image-read kept (number (drop (a .at) s)) v rest (sym (ap (scannedOf s) (known .1)) ∙ c .before .before .before .before .before .number-at .ensures) in
     rw e
-    (c .closed-at .ensures ∙ ap (λ (b : Bool). judgeBy same (always b) (closed v rest)) (c .before .is-within .ensures)
-    ∙ ap (λ (x : ℕ). judgeBy same (always (within range x)) (closed x rest)) f ∙ closed-number range w rest (limit-near (a .k)))
+    (c .closed-at .ensures ∙ ap (λ (b : Bool). judgeBy same (always b) (drop (a .at) s) (closed v rest)) (c .before .is-within .ensures)
+    ∙ ap (λ (x : ℕ). judgeBy same (always (within range x)) (drop (a .at) s) (closed x rest)) f ∙ closed-number range w (drop (a .at) s) rest (limit-near (a .k)))
 
 pub number-value-spec : {M : Type 1} → statement M
 number-value-spec =

@@ -2,6 +2,7 @@
 use mathlib.Core.Path.{sym, _∙_}
 use Prim.Native.Nat.{_+_}
 use native.Mathlib.Omega.{arith}
+use denote.Ref.{now}
 use borrow.Author.Needs.{needs}
 use Rattle.lines.proofs.NumberedLaws.{stands-behind}
 use Rattle.lines.proofs.numbering.three_numbered.Statement.{statement}
@@ -21,10 +22,10 @@ add-numbered c = search needs
 
 numbered-requires-2 : tie.Need-numbered-requires-2
 numbered-requires-2 c κs =
-    let a = c .before .before .before .before .args in
+    let a = c .before .before .before .before .before .args in
     let first = c .before .first .given in
-    let one = stands-behind (a .k) (a .place) (a .got .first) (first .0 .0) (first .0 .1 .0) (sym (c .before .first .given .1) ∙ c .before .before .before .numbered .ensures) .0 in
-    omega arith
+    let one = stands-behind (now (a .s)) (a .k) (a .place) (a .got .first) (first .0 .0) (first .0 .1 .0) (sym (c .before .first .given .1) ∙ c .before .before .before .numbered .ensures) .0 in
+    (omega arith, omega arith)
 
 enum-known-f-2 : tie.Need-enum-known-f-2
 enum-known-f-2 c = search needs
@@ -37,12 +38,12 @@ add-numbered-2 c = search needs
 
 numbered-requires-3 : tie.Need-numbered-requires-3
 numbered-requires-3 c κs =
-    let a = c .before .before .before .before .before .before .before .before .args in
+    let a = c .before .before .before .before .before .before .before .before .before .args in
     let first = c .before .before .before .before .before .first .given in
     let second = c .before .second .given in
-    let one = stands-behind (a .k) (a .place) (a .got .first) (first .0 .0) (first .0 .1 .0) (sym (c .before .before .before .before .before .first .given .1) ∙ c .before .before .before .before .before .before .before .numbered .ensures) .0 in
-    let two = stands-behind (a .k + 1) (first .0 .1 .0) (a .got .second) (second .0 .0) (second .0 .1 .0) (sym (c .before .second .given .1) ∙ c .before .before .before .numbered2 .ensures) .0 in
-    omega arith
+    let one = stands-behind (now (a .s)) (a .k) (a .place) (a .got .first) (first .0 .0) (first .0 .1 .0) (sym (c .before .before .before .before .before .first .given .1) ∙ c .before .before .before .before .before .before .before .numbered .ensures) .0 in
+    let two = stands-behind (now (a .s)) (a .k + 1) (first .0 .1 .0) (a .got .second) (second .0 .0) (second .0 .1 .0) (sym (c .before .second .given .1) ∙ c .before .before .before .numbered2 .ensures) .0 in
+    (omega arith, omega arith)
 
 enum-known-f-3 : tie.Need-enum-known-f-3
 enum-known-f-3 c = search needs

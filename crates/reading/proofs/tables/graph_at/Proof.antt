@@ -33,7 +33,7 @@ graph-nodes-requires c κs =
     let known = c .before .head .given in
     let w = told _ (sym (sym (ap (threeReadOf s) (known .1)) ∙ c .before .before .before .three-at .ensures)) (three-holds Keys.period 0 P refl) in
     let l = within-limits Limits.nodes (known .0 .0 .third) (w .0) in
-    (omega arith, omega arith, l .0, l .1, omega (arith, w .1), omega (arith, w .1, l .1))
+    (omega arith, omega arith, l .0, l .1, omega (arith, w .1), omega (arith, w .1, l .1), omega arith)
 
 returns : tie.Need-returns
 returns c =

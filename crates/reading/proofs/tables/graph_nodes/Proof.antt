@@ -1,12 +1,13 @@
 -- `graph_nodes` meets its contract.
 use mathlib.Core.Path.{sym, _∙_, ap}
-use Prim.Native.Nat.{_-_}
+use Prim.Native.Nat.{ℕ, _-_}
 use native.Mathlib.Omega.{arith}
 use denote.Ref.{now}
 use borrow.Author.Needs.{needs}
 use Rattle.rules.proofs.Outcomes.{told}
 use Rattle.rules.proofs.ReadWellFormed.{nodes-holds}
-use Rattle.format.specs.Reading.{node, nodesFrom}
+use Rattle.format.specs.declared.Refusal.the-variants.{OutsideLimits}
+use Rattle.format.specs.Reading.{refused, node, nodesFrom}
 use Rattle.reading.specs.Memory.{withGraph}
 use Rattle.lines.specs.Numbered.{mapOutcome, placeOf}
 use Rattle.reading.specs.Outcomes.{endOf, Taken, taken, tableReadOf}
@@ -24,17 +25,21 @@ add-if1 c = search needs
 sub-line : tie.Need-sub-line
 sub-line c = search needs
 
+value-column-requires : tie.Need-value-column-requires
+value-column-requires c κs = search needs
+
 returns : tie.Need-returns
 returns c =
-    let a = c .before .before .before .args in
+    let a = c .before .before .before .before .args in
     let s = now (a .s) in
     let P = placeOf s (a .place) in
     let t = a .t in
     let h = a .head in
-    sym (ap (mapOutcome (withGraph t)) (nodes-over (t .nodes) (h .first) (h .second) (h .third) (a .place .line - 1) P (omega arith)))
+    ap (λ (k : ℕ). refused (OutsideLimits (a .place .line - 1) k)) (c .value-column .ensures)
+    ∙ sym (ap (mapOutcome (withGraph t)) (nodes-over (t .nodes) (h .first) (h .second) (h .third) (a .place .line - 1) P (omega arith)))
 
 nodes-at-requires : tie.Need-nodes-at-requires
-nodes-at-requires c κs = (omega arith, omega arith, omega arith)
+nodes-at-requires c κs = (omega arith, omega arith, omega arith, omega arith)
 
 enum-known-end : tie.Need-enum-known-end
 enum-known-end c = search needs
@@ -95,6 +100,7 @@ graph-nodes-spec =
     cast-if1
     add-if1
     sub-line
+    value-column-requires
     returns
     nodes-at-requires
     enum-known-end

@@ -32,7 +32,7 @@ loop-holds c =
     (search needs, search needs, search needs, search needs, rw e)
 
 graph-at-requires : tie.Need-graph-at-requires Inv-loop μ-loop
-graph-at-requires c κs = (omega arith, omega arith, omega arith)
+graph-at-requires c κs = (omega arith, omega arith, omega arith, omega arith)
 
 enum-known-end : tie.Need-enum-known-end Inv-loop μ-loop
 enum-known-end c = search needs

@@ -31,7 +31,7 @@ loop-holds c =
     (search needs, search needs, search needs, search needs, rw e)
 
 node-at-requires : tie.Need-node-at-requires Inv-loop μ-loop
-node-at-requires c κs = (omega arith, omega arith)
+node-at-requires c κs = (omega arith, omega arith, omega arith)
 
 enum-known-f : tie.Need-enum-known-f Inv-loop μ-loop
 enum-known-f c = search needs

@@ -58,7 +58,7 @@ graphs-at-requires c κs =
     let l = within-limits Limits.graphs (known .0 .0 .third) (w .0) in
     let g = ap (λ (m : Memory). m .graphs) (c .empty3 .ensures) in
     let n = ap (λ (m : Memory). m .nodes) (c .empty3 .ensures) in
-    (omega (arith, l .1), omega arith, omega (arith, l .1, w .1))
+    (omega (arith, l .1), omega arith, omega (arith, l .1, w .1), omega arith)
 
 ended-at-requires : tie.Need-ended-at-requires
 ended-at-requires c κs = search needs

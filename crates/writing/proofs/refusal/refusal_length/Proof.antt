@@ -4,9 +4,9 @@ use Prim.Native.Nat.{ℕ}
 use native.Mathlib.Omega.{arith}
 use lib.ListN.{length, length-append}
 use Rattle.format.specs.Bytes.{bytes}
-use Rattle.format.specs.Refusals.{numberOf, lineOf}
+use Rattle.format.specs.Refusals.{numberOf}
 use Rattle.rules.specs.Answers.{answerLine, printed}
-use Rattle.writing.specs.Line.{line}
+use Rattle.writing.specs.Line.{line, placed}
 use borrow.Author.Needs.{needs}
 use Rattle.writing.proofs.refusal.refusal_length.Statement.{statement}
 use Rattle.writing.proofs.refusal.refusal_length.Tie as tie
@@ -20,27 +20,20 @@ number-of-requires c κs = search needs
 line-length-requires : tie.Need-line-length-requires
 line-length-requires c κs = search needs
 
-slice-aggregate-line-length-2 : tie.Need-slice-aggregate-line-length-2
-slice-aggregate-line-length-2 c = search needs
-
-line-of-requires : tie.Need-line-of-requires
-line-of-requires c κs = search needs
-
-line-length-requires-2 : tie.Need-line-length-requires-2
-line-length-requires-2 c κs = search needs
+place-length-requires : tie.Need-place-length-requires
+place-length-requires c κs = search needs
 
 add-result : tie.Need-add-result
-add-result c = omega (arith, c .before .before .before .line-length .ensures .within, c .line-length2 .ensures .within)
+add-result c = omega (arith, c .before .line-length .ensures .within, c .place-length .ensures .within)
 
 returns : tie.Need-returns
 unfolding printed answerLine
 returns c =
-    let r = c .before .before .before .before .before .before .args .r in
-    let first = c .before .before .before .line-length .ensures .size ∙ ap (λ (k : ℕ). length (line (bytes "answer") k)) (c .before .before .before .before .number-of .ensures) in
-    let second = c .line-length2 .ensures .size ∙ ap (λ (k : ℕ). length (line (bytes "line") k)) (c .before .line-of .ensures) in
+    let r = c .before .before .before .before .args .r in
+    let first = c .before .line-length .ensures .size ∙ ap (λ (k : ℕ). length (line (bytes "answer") k)) (c .before .before .number-of .ensures) in
     record {
-      size = omega (arith, length-append (line (bytes "answer") (numberOf r)) (line (bytes "line") (lineOf r)), first, second);
-      within = omega (arith, c .before .before .before .line-length .ensures .within, c .line-length2 .ensures .within);
+      size = omega (arith, length-append (line (bytes "answer") (numberOf r)) (placed r), first, c .place-length .ensures .size);
+      within = omega (arith, c .before .line-length .ensures .within, c .place-length .ensures .within);
     }
 
 pub refusal-length-spec : {M : Type 1} → statement M
@@ -50,8 +43,6 @@ refusal-length-spec =
     slice-aggregate-line-length
     number-of-requires
     line-length-requires
-    slice-aggregate-line-length-2
-    line-of-requires
-    line-length-requires-2
+    place-length-requires
     add-result
     returns)

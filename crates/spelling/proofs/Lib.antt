@@ -1,0 +1,5 @@
+pub mod Spelled
+pub mod SpelledNumbers
+pub mod SpelledLists
+pub mod LongestBeginning
+pub mod Columns
