@@ -5,3 +5,4 @@ pub mod ReadWellFormed
 pub mod Printed
 pub mod TrueReports
 pub mod CutTables
+pub mod LimitedOverlap

@@ -6,3 +6,5 @@ pub mod OnePass
 pub mod Walking
 pub mod CasesInOnePass
 pub mod OneFigure
+pub mod OverlapCases
+pub mod LevelOne

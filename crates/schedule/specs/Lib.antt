@@ -8,6 +8,8 @@ pub mod State
 pub mod Walk
 pub mod WellFormed
 pub mod LeastTrue
+pub mod Overlap
 pub mod Described
 pub mod TableCases
 pub mod WalkCases
+pub mod OverlapCases

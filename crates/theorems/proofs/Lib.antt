@@ -25,3 +25,4 @@ pub mod TableBox
 pub mod LeastTrue
 pub mod QuietSpans
 pub mod QuietWalk
+pub mod Overlap

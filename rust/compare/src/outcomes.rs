@@ -1,6 +1,7 @@
 //! What has come up in a run, and what has not: a run that never met an outcome shows nothing of it.
 
 use simulator::demand3::Looked;
+use simulator::overlap;
 use std::fmt;
 use std::ops::AddAssign;
 
@@ -23,6 +24,8 @@ pub struct Outcomes {
     pub invocations: u64,
     /// Its second half: figures that an invocation takes exactly.
     pub attained: u64,
+    /// ticks in which jobs of a node overlapped, and starts after an earlier job.
+    pub overlap: overlap::Looked,
 }
 
 impl Outcomes {
@@ -33,14 +36,16 @@ impl Outcomes {
         self.attained += looked.attained;
     }
 
-    /// The outcomes that never came up. Demand 3 counts where the run was to look at it.
-    pub fn missing(&self, demand_3: bool) -> Vec<String> {
+    /// The outcomes that never came up. Demand 3 and R-8 count where the run was to look at them.
+    pub fn missing(&self, by_force: bool) -> Vec<String> {
         let refusals = REFUSALS.map(|number| (format!("refusal {number}"), self.calls[number]));
         let mut all: Vec<(String, u64)> = vec![("a settled table".into(), self.reports[0])];
         all.extend(refusals);
-        if demand_3 {
+        if by_force {
             all.push(("an invocation within its figure".into(), self.invocations));
             all.push(("a figure attained".into(), self.attained));
+            all.push(("jobs of a node that overlap".into(), self.overlap.overlaps));
+            all.push(("a start after an earlier job".into(), self.overlap.starts));
         }
         all.into_iter().filter(|(_, count)| *count == 0).map(|(outcome, _)| outcome).collect()
     }
@@ -54,6 +59,7 @@ impl AddAssign<&Outcomes> for Outcomes {
         self.forced += other.forced;
         self.invocations += other.invocations;
         self.attained += other.attained;
+        self.overlap += other.overlap;
     }
 }
 
@@ -70,6 +76,11 @@ impl fmt::Display for Outcomes {
             out,
             "; demand 3 on {} tables, {} invocations, {} figures attained",
             self.forced, self.invocations, self.attained
+        )?;
+        write!(
+            out,
+            "; R-8 on {} ticks with overlap and {} starts",
+            self.overlap.overlaps, self.overlap.starts
         )
     }
 }

@@ -8,8 +8,9 @@ use crate::outcomes::Outcomes;
 use crate::shrink::shrink;
 use generator::{Rng, make};
 use simulator::question::judge;
+use simulator::reader::read;
 use simulator::walk::walk;
-use simulator::{Reply, demand3};
+use simulator::{Reply, demand3, overlap};
 use std::fmt;
 use std::panic::resume_unwind;
 use std::sync::atomic::{AtomicU64, Ordering};
@@ -20,10 +21,14 @@ use std::thread;
 pub enum Fault {
     Differs { seed: u64, table: Vec<u8>, difference: Box<Difference> },
     Demand3 { seed: u64, table: Vec<u8>, what: String },
+    Overlap { seed: u64, table: Vec<u8>, what: String },
 }
 
 /// Hyperperiods past the stop over which demand 3 is checked.
 const PAST: u32 = 3;
+
+/// Ticks in which R-8 is looked at; of most tables also ticks past the stop.
+const OVERLAP_TICKS: u32 = 1_000;
 
 /// Checks the tables of all seeds; the fault given is that of the lowest seed that has one.
 pub fn run(library: &dyn Library, options: &Options) -> Result<Outcomes, Fault> {
@@ -73,6 +78,7 @@ fn run_seed(library: &dyn Library, seed: u64, by_force: bool, outcomes: &mut Out
     outcomes.calls.iter_mut().zip(calls).for_each(|(all, calls)| *all += calls);
     if by_force {
         outcomes.looked(force(seed, &table)?);
+        outcomes.overlap += force_overlap(seed, &table)?;
     }
     Ok(())
 }
@@ -103,6 +109,19 @@ fn force(seed: u64, table: &[u8]) -> Result<demand3::Looked, Fault> {
     })
 }
 
+/// R-8 by force on a table that passes 1 to 4, whether its walk settles or not.
+fn force_overlap(seed: u64, table: &[u8]) -> Result<overlap::Looked, Fault> {
+    let Ok(values) = read(table) else { return Ok(overlap::Looked::default()) };
+    let mut rng = rng_for(seed);
+    let style = rng.below(3);
+    let needs = |budget| need(&mut rng, style, budget);
+    overlap::check(&values, OVERLAP_TICKS, needs).map_err(|what| Fault::Overlap {
+        seed,
+        table: table.to_vec(),
+        what,
+    })
+}
+
 /// A need from 1 to the budget: anything, or an end, or mostly the least.
 fn need(rng: &mut Rng, style: usize, budget: u32) -> u32 {
     match style {
@@ -125,7 +144,7 @@ impl Fault {
     /// The seed of its table.
     fn seed(&self) -> u64 {
         match self {
-            Fault::Differs { seed, .. } | Fault::Demand3 { seed, .. } => *seed,
+            Fault::Differs { seed, .. } | Fault::Demand3 { seed, .. } | Fault::Overlap { seed, .. } => *seed,
         }
     }
 }
@@ -139,6 +158,9 @@ impl fmt::Display for Fault {
             }
             Fault::Demand3 { seed, table, what } => {
                 write!(out, "seed {seed} breaks demand 3: {what}\n{}", shown(table))
+            }
+            Fault::Overlap { seed, table, what } => {
+                write!(out, "seed {seed} breaks R-8: {what}\n{}", shown(table))
             }
         }
     }

@@ -6,12 +6,14 @@ use compare::options::Options;
 use compare::outcomes::{Numbers, Outcomes, REFUSALS};
 use compare::run::run;
 use simulator::Answer;
+use simulator::overlap::Looked;
 use std::process::Command;
 
 /// Outcomes that have all come up once.
 fn all() -> Outcomes {
     let once = Numbers::default().map(|_| 1);
-    Outcomes { reports: once, calls: once, forced: 1, invocations: 1, attained: 1 }
+    let overlap = Looked { overlaps: 1, starts: 1 };
+    Outcomes { reports: once, calls: once, forced: 1, invocations: 1, attained: 1, overlap }
 }
 
 #[test]
@@ -28,6 +30,9 @@ fn each_outcome_is_missed() {
     let bare = Outcomes { invocations: 0, attained: 0, ..all() };
     assert_eq!(bare.missing(true), ["an invocation within its figure", "a figure attained"]);
     assert!(bare.missing(false).is_empty());
+    let apart = Outcomes { overlap: Looked::default(), ..all() };
+    assert_eq!(apart.missing(true), ["jobs of a node that overlap", "a start after an earlier job"]);
+    assert!(apart.missing(false).is_empty());
 }
 
 /// The program: exit status and what it printed.

@@ -11,13 +11,15 @@
 //! - `state`, `walk`: the state at a boundary and where the walk stops;
 //! - `reply`, `text`: answers, refusals and the lent buffer;
 //! - `question`: the two calls;
-//! - `demand3`: the figure checked by force.
+//! - `demand3`: the figure checked by force;
+//! - `overlap`: R-8 checked by force.
 #![forbid(unsafe_code)]
 
 pub mod demand3;
 pub mod history;
 pub mod limits;
 pub mod load;
+pub mod overlap;
 pub mod question;
 pub mod reader;
 pub mod reply;
