@@ -203,7 +203,7 @@ list-value s =
     by-test (next? letterN s) (λ e. rw e (none (text (bytes "none") s) (text-takes (bytes "none") s)))
     (λ e. rw e (weaker Numbers Value numbers-value s (numbersBy (suc (length s)) s) (numbers-by-takes (suc (length s)) s)))
   where
-    none : (x : Scan (Unit {0})) → Takes (λ a. a ≡ bytes "none") s x → Takes Value s (x ⟫ (λ u rest. read [] rest))
+    none : (x : Scan (Unit {0})) → Takes (λ a. a ≡ bytes "none") s x → Takes {A = List ℕ} Value s (x ⟫ (λ u rest. read [] rest))
     none (wrong rest) h = tt
     none (read u rest) h = record { front = h .front; is = h .is; holds = none-value (h .front) (h .holds) }
 
