@@ -9,3 +9,5 @@ pub mod Reading
 pub mod Calls
 pub mod Measuring
 pub mod Putting
+pub mod Told
+pub mod Room

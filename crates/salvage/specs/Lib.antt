@@ -1,3 +1,4 @@
 pub mod Place
 pub mod Line
 pub mod Call
+pub mod Told

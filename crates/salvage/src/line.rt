@@ -10,6 +10,9 @@ ghost use Prim.Native.Nat.{_≤_};
 ghost use Rattle.schedule.specs.Limits as Limits;
 ghost use Rattle.salvage.specs.Line as Lines;
 
+// A blank is a space, and nothing else is.
+pub const BLANK: u8 = b' ';
+
 // The place after the last byte that is no blank, the blanks since then, and whether the line has had a carriage return, a byte that is kept,
 // and a zero that went.
 pub struct Line {
@@ -90,7 +93,7 @@ pub fn line_after(l: Line, c: u8) -> Line
             zeros: l.zeros,
         };
     }
-    if c == b' ' {
+    if c == BLANK {
         return Line {
             place,
             blanks: l.blanks + 1,
@@ -148,7 +151,7 @@ pub fn adds(l: Line, c: u8) -> Added
             byte: false,
         };
     }
-    if c == b' ' {
+    if c == BLANK {
         return Added {
             zero: false,
             blanks: 0,

@@ -23,6 +23,12 @@ ghost use Rattle.salvaging.specs.Fixes.{fixesOf};
 ghost use Rattle.salvaging.specs.Salvage.{salvageCall};
 ghost use Rattle.salvage.specs.Call.{called, Filled};
 
+// `fix=`, a line number of four digits, a comma, the kind and LF.
+const FIX_BYTES: usize = 11;
+
+// No list is longer: each byte is the cause of one line of it at most, and the end of the last line of one more.
+pub const LIST_BYTES: usize = FIX_BYTES * (Table::TABLE_BYTES_TO as usize + 1);
+
 pub struct Lengths {
     pub text: usize,
     pub list: usize,

@@ -1,5 +1,6 @@
 // What a byte adds to the text: its length, and its bytes in a lent part of the buffer.
 use crate::line::Added;
+use crate::line::BLANK;
 ghost use mathlib.Core.Path.{_≡_};
 ghost use Prim.Native.Nat.{ℕ, _≤_};
 ghost use lib.ListN.{length, replicate};
@@ -38,7 +39,7 @@ pub fn put_blanks(part: &mut [u8], n: usize) -> usize
 {
     let mut i: usize = 0;
     while i < n {
-        part[i] = b' ';
+        part[i] = BLANK;
         i += 1;
     }
     i

@@ -239,7 +239,7 @@ module _ (name a : List ℕ) (n : all? named? name ≡ true) (v : Value a) where
       record {
         returns = all-kept plain? (name ++ (equals ∷ a)) (all-weaker sound? plain? (λ c e. first-of (plain? c) (within-line? c && solid? c) e) (name ++ (equals ∷ a)) whole);
         blanks = solid-trimmed (name ++ (equals ∷ a))
-        (all-weaker sound? solid? (λ c e. second-of (within-line? c) (solid? c) (second-of (plain? c) (within-line? c && solid? c) e)) (name ++ (equals ∷ a)) whole);
+            (all-weaker sound? solid? (λ c e. second-of (within-line? c) (solid? c) (second-of (plain? c) (within-line? c && solid? c) e)) (name ++ (equals ∷ a)) whole);
         zeros = unpadded-named name a n ∙ ap (λ (l : List ℕ). name ++ (equals ∷ l)) (v .zeros);
         some = some-append name equals a;
         one = all-weaker sound? within-line? (λ c e. first-of (within-line? c) (solid? c) (second-of (plain? c) (within-line? c && solid? c) e)) (name ++ (equals ∷ a)) whole;

@@ -1,5 +1,6 @@
 //! What has come up in a run, and what has not: a run that never met an outcome shows nothing of it.
 
+use crate::mending::Mendings;
 use simulator::demand3::Looked;
 use std::fmt;
 use std::ops::AddAssign;
@@ -23,6 +24,8 @@ pub struct Outcomes {
     pub invocations: u64,
     /// Its second half: figures that an invocation takes exactly.
     pub attained: u64,
+    /// What came of the spoiled texts.
+    pub mendings: Mendings,
 }
 
 impl Outcomes {
@@ -38,6 +41,7 @@ impl Outcomes {
         let refusals = REFUSALS.map(|number| (format!("refusal {number}"), self.calls[number]));
         let mut all: Vec<(String, u64)> = vec![("a settled table".into(), self.reports[0])];
         all.extend(refusals);
+        all.extend(self.mendings.counts());
         if demand_3 {
             all.push(("an invocation within its figure".into(), self.invocations));
             all.push(("a figure attained".into(), self.attained));
@@ -54,6 +58,7 @@ impl AddAssign<&Outcomes> for Outcomes {
         self.forced += other.forced;
         self.invocations += other.invocations;
         self.attained += other.attained;
+        self.mendings += &other.mendings;
     }
 }
 
@@ -70,6 +75,7 @@ impl fmt::Display for Outcomes {
             out,
             "; demand 3 on {} tables, {} invocations, {} figures attained",
             self.forced, self.invocations, self.attained
-        )
+        )?;
+        write!(out, "; {}", self.mendings)
     }
 }

@@ -1,6 +1,15 @@
 //! R-5, written from document 02 alone: the steps one after another over the
 //! whole text, as a list of lines that keep their original numbers.
 
+use crate::limits::TABLE_BYTES;
+
+/// What is left of a text, and the list of what was changed.
+#[derive(Clone, Debug, PartialEq, Eq)]
+pub struct Mended {
+    pub text: Vec<u8>,
+    pub list: Vec<u8>,
+}
+
 /// A line that is left, with its number in the original text.
 struct Line {
     number: usize,
@@ -8,9 +17,9 @@ struct Line {
     ended: bool,
 }
 
-/// The text left and the list of what was changed; `None` for refusal 1.
-pub fn salvage(original: &[u8], most: usize) -> Option<(Vec<u8>, Vec<u8>)> {
-    if original.len() > most {
+/// `None` for refusal 1, on the original bytes or those left.
+pub fn salvage(original: &[u8]) -> Option<Mended> {
+    if original.len() > TABLE_BYTES {
         return None;
     }
     let mut lines = lines_of(original);
@@ -35,12 +44,12 @@ pub fn salvage(original: &[u8], most: usize) -> Option<(Vec<u8>, Vec<u8>)> {
         fixes.push((last.number, 5));
     }
     let text: Vec<u8> = lines.into_iter().flat_map(|line| line.bytes.into_iter().chain([b'\n'])).collect();
-    if text.len() > most {
+    if text.len() > TABLE_BYTES {
         return None;
     }
     fixes.sort_unstable();
     let list = fixes.iter().flat_map(|(line, kind)| format!("fix={line},{kind}\n").into_bytes()).collect();
-    Some((text, list))
+    Some(Mended { text, list })
 }
 
 /// Applies a step to every line, and lists the lines that it changed.
@@ -86,12 +95,11 @@ fn without_padding(bytes: &mut Vec<u8>) {
 
 #[cfg(test)]
 mod tests {
-    use super::salvage;
+    use super::{Mended, salvage};
 
     fn mends(original: &str, text: &str, list: &str) {
-        let result = salvage(original.as_bytes(), 4096);
-        let expected = (text.as_bytes().to_vec(), list.as_bytes().to_vec());
-        assert_eq!(result, Some(expected), "{original:?}");
+        let expected = Mended { text: text.into(), list: list.into() };
+        assert_eq!(salvage(original.as_bytes()), Some(expected), "{original:?}");
     }
 
     #[test]
@@ -109,13 +117,13 @@ mod tests {
     #[test]
     fn lengths() {
         let letters = vec![b'x'; 4096];
-        assert_eq!(salvage(&letters, 4096), None);
-        assert_eq!(salvage(&[b'\r'; 4097], 4096), None);
+        assert_eq!(salvage(&letters), None);
+        assert_eq!(salvage(&[b'\r'; 4097]), None);
         let mut ended = letters.clone();
         ended[4095] = b'\r';
         let mut text = letters;
         text[4095] = b'\n';
         let list = b"fix=1,1\nfix=1,5\n".to_vec();
-        assert_eq!(salvage(&ended, 4096), Some((text, list)));
+        assert_eq!(salvage(&ended), Some(Mended { text, list }));
     }
 }

@@ -1,54 +1,60 @@
+-- `salvage` meets its contract: refusals 1 and 10, or both outputs written.
+use native.Mathlib.Omega.{arith}
+use Rattle.salvage.proofs.Calls.{given-too-long, left-too-long, short-text, short-list, both-written}
 use borrow.Author.Needs.{needs}
 use Rattle.salvage.proofs.mending.salvage.Statement.{statement}
 use Rattle.salvage.proofs.mending.salvage.Tie as tie
-use Rattle.salvage.proofs.mending.salvage.Reads as reads
-use Rattle.salvage.proofs.mending.salvage.Lts as lts
-use Rattle.salvage.proofs.mending.measured.Reads as measured-reads
-use Rattle.salvage.proofs.mending.put_both.Reads as put-both-reads
 
--- src/mending.rt:84:9
 cast-if1 : tie.Need-cast-if1
 cast-if1 c = search needs
 
--- src/mending.rt:85:9
 returns : tie.Need-returns
-returns c = ?
+returns c = given-too-long _ _ _ (c .if1 .taken)
 
--- src/mending.rt:87:9
 measured-requires : tie.Need-measured-requires
 measured-requires c κs = search needs
 
--- src/mending.rt:88:9
 cast-if2 : tie.Need-cast-if2
 cast-if2 c = search needs
 
--- src/mending.rt:89:9
 returns-2 : tie.Need-returns-2
-returns-2 c = ?
+returns-2 c =
+    let n = c .before .before .measured .ensures in
+    left-too-long _ _ _ (c .before .before .before .if1 .left) (omega (arith, n .0, c .if2 .taken))
 
--- src/mending.rt:92:9
 returns-3 : tie.Need-returns-3
-returns-3 c = ?
+returns-3 c =
+    let n = c .before .before .before .before .measured .ensures in
+    short-text _ _ _ (c .before .before .before .before .before .if1 .left) (omega (arith, n .0, c .before .before .if2 .left)) (omega (arith, n .0, c .if3 .taken))
 
--- src/mending.rt:95:9
 returns-4 : tie.Need-returns-4
-returns-4 c = ?
+returns-4 c =
+    let m = c .before .before .before .before .before .before in
+    let n = m .measured .ensures in
+    short-list _ _ _ (m .before .if1 .left) (omega (arith, n .0, c .before .before .before .before .if2 .left)) (omega (arith, n .0, c .before .before .if3 .left))
+    (omega (arith, n .1, c .if4 .taken))
 
--- src/mending.rt:97:5
 put-both-requires : tie.Need-put-both-requires
-put-both-requires c κs = search needs
+put-both-requires c κs =
+    let e = c .before .before in
+    let m = e .before .before .before .before .before .before in
+    let n = m .measured .ensures in
+    (m .before .if1 .left, (omega (arith, n .0, e .before .before .if3 .left), omega (arith, n .1, e .if4 .left)))
 
--- src/mending.rt:81:1
 same-length : tie.Need-same-length
 same-length c = search needs
 
--- src/mending.rt:81:1
 same-length-2 : tie.Need-same-length-2
 same-length-2 c = search needs
 
--- src/mending.rt:81:1
 returns-5 : tie.Need-returns-5
-returns-5 c = ?
+returns-5 c =
+    let p = c .before .before .before .before in
+    let e = p .before .before .before in
+    let m = e .before .before .before .before .before .before in
+    let n = m .measured .ensures in
+    both-written _ _ _ (m .before .if1 .left) (omega (arith, n .0, e .before .before .before .before .if2 .left)) (omega (arith, n .0, e .before .before .if3 .left))
+    (omega (arith, n .1, e .if4 .left)) (n .0) (n .1) (p .put-both .ensures .0) (p .put-both .ensures .1)
 
 pub salvage-spec : {M : Type 1} → statement M
 salvage-spec =
