@@ -1,9 +1,3 @@
-pub mod Unpadding
-pub mod TextRead
-pub mod Changes
-pub mod KindsRead
-pub mod ListRead
-pub mod Lengths
 pub mod Begun
 pub mod Reading
 pub mod Calls

@@ -10,12 +10,12 @@ use Rattle.salvaging.specs.Steps.{salvaged}
 use Rattle.salvaging.specs.Fixes.{fixesOf}
 use Rattle.salvaging.specs.Salvage.{longestLeft, longestList}
 use Rattle.salvaging.proofs.Longest.{text-most, list-most}
-use Rattle.salvage.specs.declared.line.Line.{Line}
-use Rattle.salvage.specs.declared.line.Added.{Added}
-use Rattle.salvage.specs.declared.line.Kinds.{Kinds}
-use Rattle.salvage.specs.Line.{fresh, lineAfter, ended, added, addedText, textFrom, kindsAt, kindsLast, numberAfter, fixesText, listFrom}
-use Rattle.salvage.proofs.TextRead.{text-is}
-use Rattle.salvage.proofs.ListRead.{list-is}
+use Rattle.mending.specs.declared.line.Line.{Line}
+use Rattle.mending.specs.declared.line.Added.{Added}
+use Rattle.mending.specs.declared.line.Kinds.{Kinds}
+use Rattle.mending.specs.Line.{fresh, lineAfter, ended, added, addedText, textFrom, kindsAt, kindsLast, numberAfter, fixesText, listFrom}
+use Rattle.mending.proofs.TextRead.{text-is}
+use Rattle.mending.proofs.ListRead.{list-is}
 use Rattle.salvage.proofs.Reading.{text-step, list-step, text-end, list-end, counted, counted-last, blanks-after, blanks-added, number-most}
 
 pub record Counted (s : List ℕ) (l : Line) (n text list i : ℕ) : Type 0 where

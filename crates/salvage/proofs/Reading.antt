@@ -11,8 +11,8 @@ use lib.Seq.{drop-cons}
 use Rattle.format.specs.Bytes.{lineFeed}
 use Rattle.schedule.proofs.Tests.{by-test}
 use Rattle.salvaging.specs.Steps.{carriageReturn, blank}
-use Rattle.salvage.specs.declared.line.Line.{Line}
-use Rattle.salvage.specs.Line.{lineAfter, ended, added, addedText, textFrom, kindsAt, kindsLast, numberAfter, fixesText, listFrom}
+use Rattle.mending.specs.declared.line.Line.{Line}
+use Rattle.mending.specs.Line.{lineAfter, ended, added, addedText, textFrom, kindsAt, kindsLast, numberAfter, fixesText, listFrom}
 
 module _ (s : List ℕ) (i : ℕ) (inside : i < length s) (l : Line) where
   abbrev c : ℕ

@@ -1,4 +1,2 @@
-pub mod Place
-pub mod Line
 pub mod Call
 pub mod Told

@@ -1,5 +1,5 @@
 // The call for C. A slice passes as a pointer and a length, and the answer by value.
-use crate::mending::salvage;
+use crate::outputs::salvage;
 use salvaging::SalvageAnswer;
 ghost use mathlib.Core.Path.{_≡_};
 ghost use Rattle.salvaging.specs.Salvage.{salvageCall};
