@@ -9,7 +9,6 @@ use Rattle.format.specs.Bytes.{bytes}
 use Rattle.format.specs.Spelling.{Scan, read, wrong, text}
 use Rattle.asking.specs.declared.instants.Instant.{Instant}
 use Rattle.asking.specs.declared.instants.Instant.the-variants.{At, Misspelled, Unread}
-use Rattle.asking.specs.declared.outputs.Output.the-variants.{Text, Fixes}
 use Rattle.asking.specs.declared.questions.Question.the-variants.{Report, Row}
 use Rattle.asking.specs.declared.questions.Asked.{Asked}
 use Rattle.asking.specs.declared.questions.Asked.the-variants as Asked
@@ -44,7 +43,7 @@ rowAsked Unread = Asked.Unread
 
 -- by a word that stands alone: `salvage` asks for what is left of a text, `fixes` for the list of what was changed
 abbrev pub outputAsked : List ℕ → Asked
-outputAsked w = cond (isWord salvage w) (Asked.Salvage Text) (cond (isWord fixes w) (Asked.Salvage Fixes) Asked.Usage)
+outputAsked w = cond (isWord salvage w) Asked.Salvage (cond (isWord fixes w) Asked.Fixes Asked.Usage)
 
 -- what the arguments behind the program's own name ask: none, the report; `salvage` or `fixes`, that output; `row` and an instant, the row at it;
 -- all others nothing

@@ -9,7 +9,6 @@ pub use arguments::instant_told;
 pub use arguments::passed_by;
 pub use instants::Instant;
 pub use instants::instant_of;
-pub use outputs::Output;
 pub use questions::Asked;
 pub use questions::Question;
 pub use questions::WORD_ROOM;

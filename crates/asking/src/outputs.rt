@@ -1,14 +1,8 @@
-// The two outputs of salvage, and the words that ask for them.
+// The words that ask for the two outputs of salvage.
 use crate::questions::Asked;
 use scanning::Found;
 ghost use mathlib.Core.Path.{_≡_};
 ghost use Rattle.asking.specs.Questions.{isWord, salvage, fixes, outputAsked};
-
-// What is left of a text, or the list of what was changed.
-pub enum Output {
-    Text,
-    Fixes,
-}
 
 pub fn is_salvage(word: &[u8]) -> bool
     ensures { λ r. ⌜ r ≡ isWord salvage (now (word .entry)) ⌝ }
@@ -35,10 +29,10 @@ pub fn output_asked(word: &[u8]) -> Asked
     ensures { λ r. ⌜ r ≡ outputAsked (now (word .entry)) ⌝ }
 {
     if is_salvage(word) {
-        return Asked::Salvage(Output::Text);
+        return Asked::Salvage;
     }
     if is_fixes(word) {
-        return Asked::Salvage(Output::Fixes);
+        return Asked::Fixes;
     }
     Asked::Usage
 }

@@ -1,6 +1,5 @@
 // The question that the arguments ask.
 use crate::instants::Instant;
-use crate::outputs::Output;
 use crate::outputs::output_asked;
 use scanning::Found;
 ghost use mathlib.Core.Path.{_≡_};
@@ -16,7 +15,9 @@ pub enum Question {
 
 pub enum Asked {
     Answer(Question),
-    Salvage(Output),
+    // what is left of a text, or the list of what was changed
+    Salvage,
+    Fixes,
     Usage,
     // an argument that the system did not hand over
     Unread,

@@ -1,3 +1,2 @@
 pub mod Inputs
 pub mod Questions
-pub mod Outputs

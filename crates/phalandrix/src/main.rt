@@ -2,12 +2,10 @@
 // mended, and what is left is printed; with `fixes` the list of what was changed.
 mod answering;
 mod input;
-mod outputs;
 
 use answering::put_answer_to;
 use asking::Asked;
 use asking::Instant;
-use asking::Output;
 use asking::Passed;
 use asking::Question;
 use asking::WORD_ROOM;
@@ -18,6 +16,7 @@ use input::read_input;
 use libc::STDERR_FILENO;
 use libc::STDIN_FILENO;
 use libc::STDOUT_FILENO;
+use outputs::Output;
 use outputs::put_fixes_to;
 use outputs::put_left_to;
 use salvage::LIST_BYTES;
@@ -127,7 +126,8 @@ fn answer(q: Question) {
     }
 }
 
-// Salvage writes both outputs, and one of them is printed.
+// Salvage writes both outputs, and one of them is printed. It is called from two places, so that the compiler leaves it a function of its own:
+// its rooms would else stand in the frame of `main`, under that of a walk.
 fn print_output(o: Output) {
     let mut room = [0u8; TABLE_ROOM];
     let mut text = [0u8; TEXT_ROOM];
@@ -150,7 +150,8 @@ fn print_output(o: Output) {
 fn main() {
     match question_asked() {
         Asked::Answer(q) => answer(q),
-        Asked::Salvage(o) => print_output(o),
+        Asked::Salvage => print_output(Output::Text),
+        Asked::Fixes => print_output(Output::Fixes),
         Asked::Usage => print_usage(),
         Asked::Unread => os::fail(b"/proc/self/cmdline"),
     }

@@ -5,7 +5,7 @@ use mathlib.Core.Bool.{Bool, true, false}
 use mathlib.Core.List.{List}
 use Prim.Native.Nat.{ℕ, _≤_, _<_}
 use native.Mathlib.Omega.{arith}
-use lib.ListN.{length, take}
+use lib.ListN.{length, take, drop, length-append}
 use lib.Dec.{T}
 use lib.Seq.{take-all, length-take-le}
 use borrow.Author.Tests.{lt-leb}
@@ -20,10 +20,9 @@ use Rattle.salvaging.specs.declared.SalvageAnswer.the-variants.{Texts, Refused}
 use Rattle.salvaging.specs.Salvage.{Salvaging, left, refused, salvageOf, fitted, SalvageCall, leaves, salvageCall, longestList}
 use Rattle.salvage.specs.Call.{called}
 use Rattle.salvage.proofs.Room.{every-salvage-fits}
-use Rattle.asking.specs.declared.outputs.Output.{Output}
-use Rattle.asking.specs.declared.outputs.Output.the-variants.{Text, Fixes}
-use Rattle.phalandrix.specs.Inputs.{Holds}
-use Rattle.phalandrix.specs.Outputs.{outputIn, outputOf}
+use Rattle.outputs.specs.declared.Output.{Output}
+use Rattle.outputs.specs.declared.Output.the-variants.{Text, Fixes}
+use Rattle.outputs.specs.Outputs.{outputIn, outputOf}
 
 abbrev textTold : SalvageAnswer → ℕ
 textTold (Texts n m) = n
@@ -82,6 +81,10 @@ module _ (s text list text' list' : List ℕ) (room : tableBytes .to ≤ length 
       let (is, _, same) = refusal-left text list text' list' r (salvageOf s) (answered (Refused r) e) in
       rw is (record { size = size; bytes = rw same at (w .bytes) })
 
+-- what was written stands within the buffer
+pub written-within : (s before after : List ℕ) (n : ℕ) → Written s before after n → n ≤ length after
+written-within s before after n w = omega (arith, w .size, ap length (w .bytes), length-append s (drop (length s) before))
+
 -- a text that is too long is refused for its length alone: one that was cut past the limit is answered as the whole one
 too-long : (s : List ℕ) → tableBytes .to < length s → salvageOf s ≡ refused TooLong
 unfolding salvageOf
@@ -96,6 +99,6 @@ salvage-of-cut room past s =
 
 -- what is printed for the bytes in a room past the limit is what is printed for the input that it holds
 pub held-output : (o : Output) (room before after : List ℕ) (n m : ℕ) → tableBytes .to < length room
-    → Written (printed (outputOf o (take n room))) before after m → (input : List ℕ) → Holds input room n → Written (printed (outputOf o input)) before after m
+    → Written (printed (outputOf o (take n room))) before after m → (input : List ℕ) → take n room ≡ take (length room) input → Written (printed (outputOf o input)) before after m
 held-output o room before after n m h w input holds =
     subst (λ (x : Salvaging). Written (printed (outputIn o x)) before after m) (ap salvageOf holds ∙ salvage-of-cut (length room) h input) w

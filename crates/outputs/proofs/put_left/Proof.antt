@@ -1,9 +1,9 @@
--- `put_fixes` meets its contract, by what the call answered.
+-- `put_left` meets its contract, by what the call answered.
 use denote.Ref.{now}
-use Rattle.phalandrix.proofs.Outputs.{list-printed, list-refused}
+use Rattle.outputs.proofs.Outputs.{text-printed, text-refused}
 use borrow.Author.Needs.{needs}
-use Rattle.phalandrix.proofs.outputs.put_fixes.Statement.{statement}
-use Rattle.phalandrix.proofs.outputs.put_fixes.Tie as tie
+use Rattle.outputs.proofs.put_left.Statement.{statement}
+use Rattle.outputs.proofs.put_left.Tie as tie
 
 salvage-requires : tie.Need-salvage-requires
 salvage-requires c κs = search needs
@@ -236,8 +236,8 @@ probs-22 c κs = c .before .before .before .before .before .before .before .befo
 probs-23 : tie.Need-put-refusal-requires
 probs-23 c κs = c .before .before .before .before .before .before .before .before .before .before .before .before .before .before .before .before .before .before .before .before .before .before .before .zzz
 
-pub put-fixes-spec : {M : Type 1} → statement M
-put-fixes-spec =
+pub put-left-spec : {M : Type 1} → statement M
+put-left-spec =
     tie.close
     (tie.spec
     salvage-requires
