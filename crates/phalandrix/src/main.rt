@@ -16,9 +16,9 @@ use input::read_input;
 use libc::STDERR_FILENO;
 use libc::STDIN_FILENO;
 use libc::STDOUT_FILENO;
-use outputs::Output;
-use outputs::put_fixes_to;
-use outputs::put_left_to;
+use printouts::Output;
+use printouts::put_fixes_to;
+use printouts::put_left_to;
 use salvage::LIST_BYTES;
 use table::Table;
 

@@ -8,8 +8,8 @@ ghost use Rattle.schedule.specs.Limits.{tableBytes};
 ghost use Rattle.rules.specs.Answers.{printed};
 ghost use Rattle.writing.specs.Written.{Written};
 ghost use Rattle.salvaging.specs.Salvage.{longestList};
-ghost use Rattle.outputs.specs.declared.Output.the-variants.{Text, Fixes};
-ghost use Rattle.outputs.specs.Outputs.{outputOf};
+ghost use Rattle.printouts.specs.declared.Output.the-variants.{Text, Fixes};
+ghost use Rattle.printouts.specs.Outputs.{outputOf};
 
 // What is left of a text, or the list of what was changed.
 pub enum Output {

@@ -3,8 +3,8 @@ use mathlib.Core.List.{List}
 use Prim.Native.Nat.{ℕ}
 use Rattle.rules.specs.Answers.{Reply, says, refuses}
 use Rattle.salvaging.specs.Salvage.{Salvaging, left, refused, salvageOf}
-use Rattle.outputs.specs.declared.Output.{Output}
-use Rattle.outputs.specs.declared.Output.the-variants.{Text, Fixes}
+use Rattle.printouts.specs.declared.Output.{Output}
+use Rattle.printouts.specs.declared.Output.the-variants.{Text, Fixes}
 
 abbrev pub outputIn : Output → Salvaging → Reply
 outputIn Text (left t f) = says t

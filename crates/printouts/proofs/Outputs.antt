@@ -20,9 +20,9 @@ use Rattle.salvaging.specs.declared.SalvageAnswer.the-variants.{Texts, Refused}
 use Rattle.salvaging.specs.Salvage.{Salvaging, left, refused, salvageOf, fitted, SalvageCall, leaves, salvageCall, longestList}
 use Rattle.salvage.specs.Call.{called}
 use Rattle.salvage.proofs.Room.{every-salvage-fits}
-use Rattle.outputs.specs.declared.Output.{Output}
-use Rattle.outputs.specs.declared.Output.the-variants.{Text, Fixes}
-use Rattle.outputs.specs.Outputs.{outputIn, outputOf}
+use Rattle.printouts.specs.declared.Output.{Output}
+use Rattle.printouts.specs.declared.Output.the-variants.{Text, Fixes}
+use Rattle.printouts.specs.Outputs.{outputIn, outputOf}
 
 abbrev textTold : SalvageAnswer → ℕ
 textTold (Texts n m) = n
