@@ -78,6 +78,10 @@ enum {
      * never refused as PHALANDRIX_SHORT_BUFFER; this is proved. */
     PHALANDRIX_REPORT_BYTES = 212,
     PHALANDRIX_ROW_BYTES = 384,
+    /* The length of the longest text that a salvage leaves, and of its longest list. A salvage whose
+     * buffers are that long is never refused as PHALANDRIX_SHORT_BUFFER; this is proved. */
+    PHALANDRIX_SALVAGE_BYTES = 4096,
+    PHALANDRIX_FIXES_BYTES = 45067,
     /* The bytes of stack that a call needs at most: measured, rounded up, and held by tests/stack.c.
      * It is not proved. */
     PHALANDRIX_STACK_BYTES = 20480
@@ -91,6 +95,25 @@ phalandrix_answer phalandrix_report(const uint8_t *table, size_t table_length,
  * priority order; invocation 0 for one that is not linked; no text for an idle tick. */
 phalandrix_answer phalandrix_row(const uint8_t *table, size_t table_length, uint64_t instant,
                                  uint8_t *buffer, size_t buffer_length);
+
+/* Number, line and column 0 and the lengths of the text and of the list; or the number of a refusal,
+ * 1 or 10, with line, column and both lengths 0. */
+typedef struct phalandrix_salvaged {
+    uint32_t number;
+    uint32_t line;
+    uint32_t column;
+    size_t text_length;
+    size_t list_length;
+} phalandrix_salvaged;
+
+/* A table that another editor spoiled, mended: carriage returns, blanks at the end of a line, empty
+ * lines and leading zeros go, and a missing last line feed is added. The mended table is written from
+ * the start of `text`, and from the start of `list` a line `fix=` with the line's number and the kind
+ * of change, 1 to 5, for each line and kind. Where either does not fit, neither buffer is written. The
+ * three ranges must not overlap. docs/TABLE.md says which bytes go. */
+phalandrix_salvaged phalandrix_salvage(const uint8_t *bytes, size_t bytes_length,
+                                       uint8_t *text, size_t text_room,
+                                       uint8_t *list, size_t list_room);
 
 #ifdef __cplusplus
 }

@@ -1,4 +1,4 @@
-/* Both calls from C, on document 01's 12-line table: the text, the answer, and every byte of the
+/* The calls from C, on document 01's 12-line table: the text, the answer, and every byte of the
  * buffer around the text. And the sentences of the refusals, by their names and numbers. */
 #include "phalandrix.h"
 
@@ -65,6 +65,65 @@ static phalandrix_answer row_in(uint8_t *buffer, uint64_t instant, size_t room)
     return phalandrix_row((const uint8_t *)table, strlen(table), instant, buffer, room);
 }
 
+/* One salvage: its answer, both outputs, and untouched bytes behind them. */
+static void expect_salvage(const char *name, const char *given, size_t text_room, size_t list_room,
+                           uint32_t number, const char *text, const char *list)
+{
+    uint8_t t[ROOM], l[ROOM];
+    size_t n = strlen(text), m = strlen(list);
+    phalandrix_salvaged a;
+    int fine;
+
+    memset(t, UNTOUCHED, ROOM);
+    memset(l, UNTOUCHED, ROOM);
+    a = phalandrix_salvage((const uint8_t *)given, strlen(given), t, text_room, l, list_room);
+    fine = a.number == number && a.line == 0 && a.column == 0 && a.text_length == n && a.list_length == m
+        && memcmp(t, text, n) == 0 && memcmp(l, list, m) == 0;
+    for (size_t i = n; i < ROOM; i++)
+        fine = fine && t[i] == UNTOUCHED;
+    for (size_t i = m; i < ROOM; i++)
+        fine = fine && l[i] == UNTOUCHED;
+    if (!fine) {
+        printf("%s: number %u, line %u, column %u, lengths %zu and %zu\n", name, (unsigned)a.number,
+               (unsigned)a.line, (unsigned)a.column, a.text_length, a.list_length);
+        failures++;
+    }
+}
+
+static void salvages(void)
+{
+    static uint8_t long_text[PHALANDRIX_SALVAGE_BYTES], t[PHALANDRIX_SALVAGE_BYTES], l[PHALANDRIX_FIXES_BYTES];
+    phalandrix_salvaged a;
+
+    expect_salvage("salvage of a table", table, ROOM, ROOM, PHALANDRIX_ANSWERED, table, "");
+    expect_salvage("salvage", "a=01 \r\n\nb=0", ROOM, ROOM, PHALANDRIX_ANSWERED, "a=1\nb=0\n",
+                   "fix=1,1\nfix=1,2\nfix=1,4\nfix=2,3\nfix=3,5\n");
+    expect_salvage("salvage that just fits", "a=1", 4, 8, PHALANDRIX_ANSWERED, "a=1\n", "fix=1,5\n");
+    expect_salvage("salvage, text too long", "a=1", 3, 8, PHALANDRIX_SHORT_BUFFER, "", "");
+    expect_salvage("salvage, list too long", "a=1", 4, 7, PHALANDRIX_SHORT_BUFFER, "", "");
+    expect_salvage("salvage of nothing", "", 0, 0, PHALANDRIX_ANSWERED, "", "");
+    memset(long_text, 'x', sizeof long_text);
+    a = phalandrix_salvage(long_text, sizeof long_text, t, sizeof t, l, sizeof l);
+    if (a.number != PHALANDRIX_TOO_LONG || a.text_length != 0 || a.list_length != 0) {
+        printf("salvage of 4,096 bytes without LF: number %u\n", (unsigned)a.number);
+        failures++;
+    }
+    /* as many lines of the list as bytes can make */
+    memset(long_text, '\n', sizeof long_text);
+    long_text[sizeof long_text - 1] = '\r';
+    a = phalandrix_salvage(long_text, sizeof long_text, t, 0, l, sizeof l);
+    if (a.number != PHALANDRIX_ANSWERED || a.text_length != 0
+        || memcmp(l + a.list_length - 22, "fix=4096,1\nfix=4096,3\n", 22) != 0) {
+        printf("the longest list: number %u, length %zu\n", (unsigned)a.number, a.list_length);
+        failures++;
+    }
+    a = phalandrix_salvage(NULL, 0, NULL, 0, NULL, 0);
+    if (a.number != PHALANDRIX_ANSWERED) {
+        printf("salvage of nothing at all: number %u\n", (unsigned)a.number);
+        failures++;
+    }
+}
+
 int main(void)
 {
     uint8_t b[ROOM];
@@ -88,12 +147,13 @@ int main(void)
     expect("row in no buffer", row_in(b, 4, 0), b, PHALANDRIX_SHORT_BUFFER, 0, "");
     memset(b, UNTOUCHED, ROOM);
     expect("nothing at all", phalandrix_report(NULL, 0, NULL, 0), b, PHALANDRIX_MISSPELLED, 1, "");
+    salvages();
     expect_sentence(PHALANDRIX_ANSWERED, "answered");
     expect_sentence(PHALANDRIX_TOO_LONG, "the table has more than 4,096 bytes");
     expect_sentence(10, "the text of the answer is longer than the buffer");
     expect_sentence(12, "a node can never keep up");
     expect_sentence(UINT32_MAX, "no number");
     if (failures == 0)
-        printf("both calls from C: as they should be\n");
+        printf("the calls from C: as they should be\n");
     return failures != 0;
 }

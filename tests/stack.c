@@ -1,5 +1,5 @@
-/* The stack of the calls: each table named is reported, and its row taken at 0, on a stack that was
- * painted before, and the paint gone is counted. PHALANDRIX_STACK_BYTES must hold every call. */
+/* The stack of the calls: each table named is reported, its row taken at 0, and it is salvaged, on a stack
+ * that was painted before, and the paint gone is counted. PHALANDRIX_STACK_BYTES must hold every call. */
 #define _GNU_SOURCE
 #include "phalandrix.h"
 
@@ -13,11 +13,16 @@ static uint8_t stack[ROOM];
 static uint8_t table[LONGEST_TABLE];
 static size_t table_length;
 static uint8_t buffer[PHALANDRIX_ROW_BYTES];
+static uint8_t text[PHALANDRIX_SALVAGE_BYTES], list[PHALANDRIX_FIXES_BYTES];
 static ucontext_t here, there;
 
 static void nothing(void) { }
 static void make_report(void) { phalandrix_report(table, table_length, buffer, sizeof buffer); }
 static void make_row(void) { phalandrix_row(table, table_length, 0, buffer, sizeof buffer); }
+static void make_salvage(void)
+{
+    phalandrix_salvage(table, table_length, text, sizeof text, list, sizeof list);
+}
 
 /* The bytes of a painted stack that are no longer as they were. */
 static size_t used_by(void (*call)(void))
@@ -51,7 +56,7 @@ static size_t larger(size_t one, size_t other) { return one > other ? one : othe
 
 int main(int count, char **names)
 {
-    size_t report = 0, row = 0, without = used_by(nothing);
+    size_t report = 0, row = 0, salvage = 0, without = used_by(nothing);
 
     for (int i = 1; i < count; i++) {
         if (!read_table(names[i])) {
@@ -60,8 +65,10 @@ int main(int count, char **names)
         }
         report = larger(report, used_by(make_report) - without);
         row = larger(row, used_by(make_row) - without);
+        salvage = larger(salvage, used_by(make_salvage) - without);
     }
-    printf("tests/stack: over %d tables report used %zu bytes of stack, row %zu; the header says %d\n",
-           count - 1, report, row, PHALANDRIX_STACK_BYTES);
-    return report == 0 || row == 0 || larger(report, row) > PHALANDRIX_STACK_BYTES;
+    printf("tests/stack: over %d tables report used %zu bytes of stack, row %zu, salvage %zu; the header says %d\n",
+           count - 1, report, row, salvage, PHALANDRIX_STACK_BYTES);
+    return report == 0 || row == 0 || salvage == 0
+        || larger(larger(report, row), salvage) > PHALANDRIX_STACK_BYTES;
 }

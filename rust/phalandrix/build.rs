@@ -43,6 +43,8 @@ fn rust_of(header: &str) -> String {
     for (name, about) in [
         ("REPORT_BYTES", "The length of the longest report: no call with such a buffer is refused as 10."),
         ("ROW_BYTES", "The length of the longest row: no call with such a buffer is refused as 10."),
+        ("SALVAGE_BYTES", "The length of the longest text that is left of a spoiled one."),
+        ("FIXES_BYTES", "The length of the longest list of what was mended."),
         ("STACK_BYTES", "The bytes of stack that a call needs at most; measured, not proved."),
     ] {
         let size = between(header, &format!("PHALANDRIX_{name} = "), "\n").trim_end_matches(',');

@@ -17,7 +17,7 @@ use Rattle.asking.specs.declared.instants.Instant.{Instant}
 use Rattle.asking.specs.declared.questions.Asked.{Asked}
 use Rattle.asking.specs.declared.questions.Asked.the-variants as Asked
 use Rattle.asking.specs.Instants.{instantOf}
-use Rattle.asking.specs.Questions.{row, longestWord, wholly, isWord, rowAsked, questionOf, asked, fitting, Told}
+use Rattle.asking.specs.Questions.{row, salvage, fixes, longestWord, wholly, isWord, rowAsked, outputAsked, questionOf, asked, fitting, Told}
 
 -- a word by what the scanner of a text found
 module _ (w s : List ℕ) (r : Found) (found : foundOf s r ≡ text w s) where
@@ -37,20 +37,34 @@ longer [] (c ∷ s) h = refl
 longer (t ∷ w) (c ∷ s) h = by-test (eqb c t) (λ e. rw e (longer w s (omega arith))) (λ e. rw e)
 
 -- so an argument that does not fit the room for a word is none
-in-its-room : (room : ℕ) → longestWord ≤ room → (s : List ℕ) → isWord row (fitting room s) ≡ isWord row s
+in-its-room : (w : List ℕ) → isWord w [] ≡ false → (room : ℕ) → length w ≤ room → (s : List ℕ) → isWord w (fitting room s) ≡ isWord w s
+in-its-room w none room l s =
+    by-lt room (length s) (λ h. rw (lt-leb (length s) room h) (none ∙ sym (longer w s (omega arith)))) (λ h. rw (le-leb (length s) room h))
+
+no-row : isWord row [] ≡ false
 unfolding text
-in-its-room room l s =
-    by-lt room (length s) (λ h. rw (lt-leb (length s) room h) (sym (longer row s (omega arith)))) (λ h. rw (le-leb (length s) room h))
+no-row = refl
+
+no-salvage : isWord salvage [] ≡ false
+unfolding text
+no-salvage = refl
+
+no-fixes : isWord fixes [] ≡ false
+unfolding text
+no-fixes = refl
 
 module _ (room : ℕ) (l : longestWord ≤ room) where
+  by-output : (w : List ℕ) → outputAsked (fitting room w) ≡ outputAsked w
+  by-output w = rw (in-its-room salvage no-salvage room l w, in-its-room fixes no-fixes room (omega arith) w)
+
   by-what-is-told : (arguments : List (List ℕ))
       → asked (suc (length arguments)) (fitting room (getD arguments 0 [])) (instantOf (getD arguments 1 [])) ≡ questionOf arguments
   by-what-is-told [] = refl
-  by-what-is-told (w ∷ []) = refl
-  by-what-is-told (w ∷ t ∷ []) = ap (λ (b : Bool). cond b (rowAsked (instantOf t)) Asked.Usage) (in-its-room room l w)
+  by-what-is-told (w ∷ []) = by-output w
+  by-what-is-told (w ∷ t ∷ []) = ap (λ (b : Bool). cond b (rowAsked (instantOf t)) Asked.Usage) (in-its-room row no-row room (omega arith) w)
   by-what-is-told (w ∷ t ∷ u ∷ rest) =
       let count : ℕ = suc (length (w ∷ t ∷ u ∷ rest)) in
-      rw (ne-eqb count 1 (λ e. omega arith), ne-eqb count 3 (λ e. omega arith))
+      rw (ne-eqb count 1 (λ e. omega arith), ne-eqb count 2 (λ e. omega arith), ne-eqb count 3 (λ e. omega arith))
 
 pub asked-is : (arguments : List (List ℕ)) (count : ℕ) (room : List ℕ) (n : ℕ) (instant : Instant) → longestWord ≤ length room
     → Told arguments count room n instant → asked count (take n room) instant ≡ questionOf arguments

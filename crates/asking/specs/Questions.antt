@@ -18,8 +18,14 @@ use Rattle.asking.specs.Instants.{atEnd, instantOf}
 abbrev pub row : List ℕ
 row = bytes "row"
 
+abbrev pub salvage : List ℕ
+salvage = bytes "salvage"
+
+abbrev pub fixes : List ℕ
+fixes = bytes "fixes"
+
 abbrev pub longestWord : ℕ
-longestWord = length row
+longestWord = length salvage
 
 module _ {A : Type 0} where
   abbrev pub wholly : Scan A → Bool
@@ -35,17 +41,24 @@ rowAsked (At t) = Asked.Answer (Row t)
 rowAsked Misspelled = Asked.Usage
 rowAsked Unread = Asked.Unread
 
--- what the arguments behind the program's own name ask: none, the report; `row` and an instant, the row at it; all others nothing
+-- by a word that stands alone: `salvage` asks for what is left of a text, `fixes` for the list of what was changed
+abbrev pub outputAsked : List ℕ → Asked
+outputAsked w = cond (isWord salvage w) Asked.Salvage (cond (isWord fixes w) Asked.Fixes Asked.Usage)
+
+-- what the arguments behind the program's own name ask: none, the report; `salvage` or `fixes`, that output; `row` and an instant, the row at it;
+-- all others nothing
 abbrev pub questionOf : List (List ℕ) → Asked
 questionOf [] = Asked.Answer Report
-questionOf (w ∷ []) = Asked.Usage
+questionOf (w ∷ []) = outputAsked w
 questionOf (w ∷ t ∷ []) = cond (isWord row w) (rowAsked (instantOf t)) Asked.Usage
 questionOf (w ∷ t ∷ u ∷ rest) = Asked.Usage
 
 -- the same by what the system tells of the arguments: how many there are, with the program's own name; the first one; the instant that the second spells
 abbrev pub asked : ℕ → List ℕ → Instant → Asked
 asked count word instant =
-    cond (eqb count 1) (Asked.Answer Report) (cond (eqb count 3) (cond (isWord row word) (rowAsked instant) Asked.Usage) Asked.Usage)
+    cond (eqb count 1) (Asked.Answer Report)
+    (cond (eqb count 2) (outputAsked word)
+    (cond (eqb count 3) (cond (isWord row word) (rowAsked instant) Asked.Usage) Asked.Usage))
 
 -- an argument in a room of its own: nothing, where it does not fit
 abbrev pub fitting : ℕ → List ℕ → List ℕ

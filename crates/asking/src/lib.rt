@@ -1,6 +1,7 @@
 // What the program's arguments ask, as functions of their bytes.
 mod arguments;
 mod instants;
+mod outputs;
 mod questions;
 
 pub use arguments::Passed;

@@ -1,5 +1,6 @@
 // The question that the arguments ask.
 use crate::instants::Instant;
+use crate::outputs::output_asked;
 use scanning::Found;
 ghost use mathlib.Core.Path.{_≡_};
 ghost use mathlib.Core.List.{List};
@@ -14,6 +15,9 @@ pub enum Question {
 
 pub enum Asked {
     Answer(Question),
+    // what is left of a text, or the list of what was changed
+    Salvage,
+    Fixes,
     Usage,
     // an argument that the system did not hand over
     Unread,
@@ -47,6 +51,9 @@ pub fn asked_by(count: usize, word: &[u8], instant: Instant) -> Asked
 {
     if count == 1 {
         return Asked::Answer(Question::Report);
+    }
+    if count == 2 {
+        return output_asked(word);
     }
     if count == 3 {
         if is_row(word) {

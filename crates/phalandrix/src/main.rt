@@ -1,4 +1,5 @@
-// The program: a table on standard input; on standard output its report or, with `row T`, its row at instant T.
+// The program: a table on standard input; on standard output its report or, with `row T`, its row at instant T. With `salvage` the text is
+// mended, and what is left is printed; with `fixes` the list of what was changed.
 mod answering;
 mod input;
 
@@ -15,10 +16,17 @@ use input::read_input;
 use libc::STDERR_FILENO;
 use libc::STDIN_FILENO;
 use libc::STDOUT_FILENO;
+use printouts::Output;
+use printouts::put_fixes_to;
+use printouts::put_left_to;
+use salvage::LIST_BYTES;
 use table::Table;
 
 // One byte more than a table may have: no more is read of a longer one, and that is enough to refuse it.
 const TABLE_ROOM: usize = Table::TABLE_BYTES_TO as usize + 1;
+
+// What is left of a text is no longer than a table may be.
+const TEXT_ROOM: usize = Table::TABLE_BYTES_TO as usize;
 
 // A piece of the command line.
 const PIECE: usize = 512;
@@ -36,7 +44,7 @@ enum Line {
 fn print_usage() {
     io::write_all(
         STDERR_FILENO,
-        b"usage: phalandrix < TABLE          the report\n       phalandrix row T < TABLE    the row at instant T\n",
+        b"usage: phalandrix < TABLE          the report\n       phalandrix row T < TABLE    the row at instant T\n       phalandrix salvage < TEXT   the text mended\n       phalandrix fixes < TEXT     what was mended\n",
     );
 }
 
@@ -118,9 +126,32 @@ fn answer(q: Question) {
     }
 }
 
+// Salvage writes both outputs, and one of them is printed. It is called from two places, so that the compiler leaves it a function of its own:
+// its rooms would else stand in the frame of `main`, under that of a walk.
+fn print_output(o: Output) {
+    let mut room = [0u8; TABLE_ROOM];
+    let mut text = [0u8; TEXT_ROOM];
+    let mut list = [0u8; LIST_BYTES];
+    match read_input(STDIN_FILENO, &mut room) {
+        Input::Failed => os::fail(b"standard input"),
+        Input::Bytes(n) => match o {
+            Output::Text => {
+                let m = put_left_to(&room, n, &mut text, &mut list);
+                print(&text[..m]);
+            }
+            Output::Fixes => {
+                let m = put_fixes_to(&room, n, &mut text, &mut list);
+                print(&list[..m]);
+            }
+        },
+    }
+}
+
 fn main() {
     match question_asked() {
         Asked::Answer(q) => answer(q),
+        Asked::Salvage => print_output(Output::Text),
+        Asked::Fixes => print_output(Output::Fixes),
         Asked::Usage => print_usage(),
         Asked::Unread => os::fail(b"/proc/self/cmdline"),
     }

@@ -6,6 +6,9 @@ mod refusal;
 mod report;
 mod row;
 
+pub use line::put_bytes;
+pub use line::put_pair;
+pub use number::digits;
 pub use refusal::column_of;
 pub use refusal::line_of;
 pub use refusal::number_of;

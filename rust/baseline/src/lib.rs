@@ -13,7 +13,8 @@
 //! - `walk`: boundaries and the stop;
 //! - `tuned`: the engine and the walk of `Tuned`;
 //! - `writer`: the text of an answer;
-//! - `call`: the two calls with a lent buffer.
+//! - `call`: the two calls with a lent buffer;
+//! - `salvage`: a spoiled text mended.
 #![forbid(unsafe_code)]
 
 mod answer;
@@ -21,6 +22,7 @@ mod call;
 mod chosen;
 mod engine;
 mod reader;
+mod salvage;
 mod table;
 mod tuned;
 mod walk;
@@ -29,3 +31,4 @@ mod writer;
 
 pub use answer::Answer;
 pub use call::{Pace, report, row};
+pub use salvage::{Salvaged, salvage};

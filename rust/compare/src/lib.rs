@@ -3,6 +3,7 @@
 //! - `library`: what is compared, the proved library or a stand-in;
 //! - `call`: one call, its answer and every byte around it;
 //! - `check`: all the calls made on one table;
+//! - `mending`: the calls of salvage on one spoiled text;
 //! - `shrink`, `loose`: a smaller table with the same difference;
 //! - `run`: the tables of a range of seeds, on several threads;
 //! - `outcomes`: what came up, and what never did;
@@ -13,6 +14,7 @@ pub mod call;
 pub mod check;
 pub mod library;
 pub mod loose;
+pub mod mending;
 pub mod options;
 pub mod outcomes;
 pub mod run;

@@ -1,13 +1,20 @@
 //! What is compared with the second simulator.
 
+use crate::mending::Salvaged;
 use baseline::Pace;
 use simulator::Answer;
 
-/// The two calls with a lent buffer; several threads call one library.
+/// The calls with lent buffers; several threads call one library.
 pub trait Library: Sync {
     fn name(&self) -> &str;
     fn report(&self, table: &[u8], buffer: &mut [u8]) -> Answer;
     fn row(&self, table: &[u8], instant: u64, buffer: &mut [u8]) -> Answer;
+
+    /// The plain one for all but the proved library: there is one pace only.
+    fn salvage(&self, given: &[u8], text: &mut [u8], list: &mut [u8]) -> Salvaged {
+        let baseline::Salvaged { number, text_length, list_length } = baseline::salvage(given, text, list);
+        Salvaged { number, text_length, list_length, ..Salvaged::default() }
+    }
 }
 
 /// A plain engine at one of its paces, in the proved library's place.
@@ -51,6 +58,12 @@ impl Library for Proved {
     fn row(&self, table: &[u8], instant: u64, buffer: &mut [u8]) -> Answer {
         let phalandrix::Answer { number, line, column, length } = phalandrix::row(table, instant, buffer);
         Answer { number, line, column, length }
+    }
+
+    fn salvage(&self, given: &[u8], text: &mut [u8], list: &mut [u8]) -> Salvaged {
+        let answer = phalandrix::salvage(given, text, list);
+        let phalandrix::Salvaged { number, line, column, text_length, list_length } = answer;
+        Salvaged { number, line, column, text_length, list_length }
     }
 }
 

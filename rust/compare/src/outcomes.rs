@@ -1,5 +1,6 @@
 //! What has come up in a run, and what has not: a run that never met an outcome shows nothing of it.
 
+use crate::mending::Mendings;
 use simulator::demand3::Looked;
 use simulator::overlap;
 use std::fmt;
@@ -26,6 +27,8 @@ pub struct Outcomes {
     pub attained: u64,
     /// ticks in which jobs of a node overlapped, and starts after an earlier job.
     pub overlap: overlap::Looked,
+    /// What came of the spoiled texts.
+    pub mendings: Mendings,
 }
 
 impl Outcomes {
@@ -41,6 +44,7 @@ impl Outcomes {
         let refusals = REFUSALS.map(|number| (format!("refusal {number}"), self.calls[number]));
         let mut all: Vec<(String, u64)> = vec![("a settled table".into(), self.reports[0])];
         all.extend(refusals);
+        all.extend(self.mendings.counts());
         if by_force {
             all.push(("an invocation within its figure".into(), self.invocations));
             all.push(("a figure attained".into(), self.attained));
@@ -60,6 +64,7 @@ impl AddAssign<&Outcomes> for Outcomes {
         self.invocations += other.invocations;
         self.attained += other.attained;
         self.overlap += other.overlap;
+        self.mendings += &other.mendings;
     }
 }
 
@@ -81,6 +86,7 @@ impl fmt::Display for Outcomes {
             out,
             "; R-8 on {} ticks with overlap and {} starts",
             self.overlap.overlaps, self.overlap.starts
-        )
+        )?;
+        write!(out, "; {}", self.mendings)
     }
 }

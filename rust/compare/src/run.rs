@@ -3,10 +3,11 @@
 use crate::call::Difference;
 use crate::check::{Checked, Effort, check};
 use crate::library::Library;
+use crate::mending::{self, Mendings};
 use crate::options::Options;
 use crate::outcomes::Outcomes;
 use crate::shrink::shrink;
-use generator::{Rng, make};
+use generator::{Rng, make, spoiled};
 use simulator::question::judge;
 use simulator::reader::read;
 use simulator::walk::walk;
@@ -20,6 +21,7 @@ use std::thread;
 #[derive(Clone, Debug, PartialEq, Eq)]
 pub enum Fault {
     Differs { seed: u64, table: Vec<u8>, difference: Box<Difference> },
+    Mends { seed: u64, text: Vec<u8>, difference: Box<mending::Difference> },
     Demand3 { seed: u64, table: Vec<u8>, what: String },
     Overlap { seed: u64, table: Vec<u8>, what: String },
 }
@@ -80,7 +82,17 @@ fn run_seed(library: &dyn Library, seed: u64, by_force: bool, outcomes: &mut Out
         outcomes.looked(force(seed, &table)?);
         outcomes.overlap += force_overlap(seed, &table)?;
     }
-    Ok(())
+    mends(library, seed, &mut outcomes.mendings)
+}
+
+/// The salvage of a seed's spoiled text; a difference is told of a smaller text.
+fn mends(library: &dyn Library, seed: u64, seen: &mut Mendings) -> Result<(), Fault> {
+    let given = spoiled(seed);
+    let Some(found) = mending::check(library, &given, &mut rng_for(seed), seen) else { return Ok(()) };
+    let differs = |text: &[u8]| mending::check(library, text, &mut rng_for(seed), &mut Mendings::default());
+    let text = shrink(&given, |smaller| differs(smaller).is_some());
+    let difference = Box::new(differs(&text).unwrap_or(found));
+    Err(Fault::Mends { seed, text, difference })
 }
 
 /// The numbers drawn for a seed's checks are not those of its table.
@@ -144,7 +156,10 @@ impl Fault {
     /// The seed of its table.
     fn seed(&self) -> u64 {
         match self {
-            Fault::Differs { seed, .. } | Fault::Demand3 { seed, .. } | Fault::Overlap { seed, .. } => *seed,
+            Fault::Differs { seed, .. }
+            | Fault::Mends { seed, .. }
+            | Fault::Demand3 { seed, .. }
+            | Fault::Overlap { seed, .. } => *seed,
         }
     }
 }
@@ -154,6 +169,10 @@ impl fmt::Display for Fault {
         match self {
             Fault::Differs { seed, table, difference } => {
                 writeln!(out, "seed {seed} differs; shrunken table:\n{}", shown(table))?;
+                write!(out, "{difference}")
+            }
+            Fault::Mends { seed, text, difference } => {
+                writeln!(out, "seed {seed} is mended otherwise; shrunken text:\n{}", shown(text))?;
                 write!(out, "{difference}")
             }
             Fault::Demand3 { seed, table, what } => {

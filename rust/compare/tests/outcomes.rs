@@ -2,6 +2,7 @@
 
 use baseline::Pace;
 use compare::library::{Library, Plain};
+use compare::mending::{KINDS, Mendings};
 use compare::options::Options;
 use compare::outcomes::{Numbers, Outcomes, REFUSALS};
 use compare::run::run;
@@ -13,7 +14,9 @@ use std::process::Command;
 fn all() -> Outcomes {
     let once = Numbers::default().map(|_| 1);
     let overlap = Looked { overlaps: 1, starts: 1 };
-    Outcomes { reports: once, calls: once, forced: 1, invocations: 1, attained: 1, overlap }
+    let mendings =
+        Mendings { texts: 1, unchanged: 1, fixes: [1; KINDS + 1], answered: 1, too_long: 1, short: 1 };
+    Outcomes { reports: once, calls: once, forced: 1, invocations: 1, attained: 1, overlap, mendings }
 }
 
 #[test]
@@ -24,6 +27,22 @@ fn each_outcome_is_missed() {
         without.calls[number] = 0;
         assert_eq!(without.missing(true), [format!("refusal {number}")]);
     }
+    for kind in 1..=KINDS {
+        let mut without = all();
+        without.mendings.fixes[kind] = 0;
+        assert_eq!(without.missing(true), [format!("a fix of kind {kind}")]);
+    }
+    let mut unmended = all();
+    unmended.mendings = Mendings { fixes: [1; KINDS + 1], ..Mendings::default() };
+    assert_eq!(
+        unmended.missing(true),
+        [
+            "a text salvaged unchanged",
+            "a salvage answered",
+            "a salvage refused as 1",
+            "a salvage refused as 10"
+        ]
+    );
     let mut unsettled = all();
     unsettled.reports[0] = 0;
     assert_eq!(unsettled.missing(true), ["a settled table"]);

@@ -6,6 +6,7 @@
 //! - `kinds`: one maker per kind of table;
 //! - `limits`: tables at a limit or one past it;
 //! - `damage`: texts that are no tables any more;
+//! - `spoil`: tables that other editors spoiled;
 //! - `make`: the table of a seed, of any kind.
 #![forbid(unsafe_code)]
 
@@ -16,7 +17,9 @@ pub mod limits;
 pub mod make;
 pub mod rng;
 pub mod shapes;
+pub mod spoil;
 
 pub use kinds::Kind;
 pub use make::{Made, make};
 pub use rng::Rng;
+pub use spoil::spoiled;

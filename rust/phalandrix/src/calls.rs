@@ -1,8 +1,8 @@
 //! The plain calls.
 //!
-//! The only `unsafe` of the package is here: the library's functions themselves. Each is passed pointer
-//! and length of a slice, which the slice keeps alive and, for the buffer, alone for the whole call; the
-//! library reads no byte outside the table and writes none outside the buffer.
+//! The only `unsafe` of the package is here and in `salvage`: the library's functions themselves. Each is
+//! passed pointer and length of a slice, which the slice keeps alive and, for the buffer, alone for the
+//! whole call; the library reads no byte outside the table and writes none outside the buffer.
 
 use crate::refusal::Refusal;
 

@@ -22,6 +22,7 @@
 //! ```
 //!
 //! - `calls`: the plain calls;
+//! - `salvage`: a text that another editor spoiled, mended;
 //! - `refusal`: the refusals, with the list made from the C header;
 //! - `reports`, `rows`: the answers as values, in a `text` of their own.
 #![no_std]
@@ -31,9 +32,13 @@ mod calls;
 mod refusal;
 mod reports;
 mod rows;
+mod salvage;
 mod text;
 
 pub use calls::{Answer, report, row};
-pub use refusal::{InTable, REPORT_BYTES, ROW_BYTES, Reason, Refusal, STACK_BYTES, VERSION};
+pub use refusal::{
+    FIXES_BYTES, InTable, REPORT_BYTES, ROW_BYTES, Reason, Refusal, SALVAGE_BYTES, STACK_BYTES, VERSION,
+};
 pub use reports::{Report, report_of};
 pub use rows::{Row, Run, row_at};
+pub use salvage::{Fix, Kind, Mended, Salvaged, mended, salvage};

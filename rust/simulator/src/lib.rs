@@ -11,6 +11,7 @@
 //! - `state`, `walk`: the state at a boundary and where the walk stops;
 //! - `reply`, `text`: answers, refusals and the lent buffer;
 //! - `question`: the two calls;
+//! - `salvage`: R-5, from document 02 alone;
 //! - `demand3`: the figure checked by force;
 //! - `overlap`: R-8 checked by force.
 #![forbid(unsafe_code)]
@@ -23,6 +24,7 @@ pub mod overlap;
 pub mod question;
 pub mod reader;
 pub mod reply;
+pub mod salvage;
 pub mod schedule;
 pub mod state;
 pub mod table;

@@ -1,10 +1,18 @@
 //! The tables that stand in `tables/` at the repository's root, each with its
-//! answer beside it: `NAME.answer` is the report of `NAME.table`, and
-//! `NAME.row-T.answer` its row at instant T.
+//! answer beside it: `NAME.answer` is the report of `NAME.table`,
+//! `NAME.row-T.answer` its row at instant T, `NAME.salvage.answer` what salvage
+//! leaves of it, and `NAME.fixes.answer` the list.
 
+use simulator::salvage::{Mended, salvage};
 use simulator::{Reply, report, row};
 use std::fs;
 use std::path::Path;
+
+/// What salvage leaves of a text, or the list.
+fn output(given: &[u8], choose: fn(Mended) -> Vec<u8>) -> Reply {
+    let too_long = Reply::Refused { number: 1, line: 0, column: 0 };
+    salvage(given).map_or(too_long, |mended| Reply::Text(choose(mended)))
+}
 
 /// What the program prints of a reply.
 fn printed(reply: Reply) -> String {
@@ -26,13 +34,18 @@ fn every_table_has_the_answer_beside_it() {
         tables += usize::from(file.ends_with(".table"));
         let Some(name) = file.strip_suffix(".answer") else { continue };
         let read = |name: &str| fs::read(folder.join(name)).expect("a table");
-        let reply = match name.split_once(".row-") {
-            Some((name, instant)) => {
-                row(&read(&format!("{name}.table")), instant.parse().expect("an instant"))
-            }
-            None => {
+        let (name, question) = name.split_once('.').unwrap_or((name, ""));
+        let table = read(&format!("{name}.table"));
+        let reply = match question {
+            "" => {
                 reports += 1;
-                report(&read(&format!("{name}.table")))
+                report(&table)
+            }
+            "salvage" => output(&table, |mended| mended.text),
+            "fixes" => output(&table, |mended| mended.list),
+            question => {
+                let instant = question.strip_prefix("row-").expect("a row");
+                row(&table, instant.parse().expect("an instant"))
             }
         };
         assert_eq!(printed(reply), fs::read_to_string(&path).expect("an answer"), "{file}");

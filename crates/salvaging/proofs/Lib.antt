@@ -1,0 +1,9 @@
+pub mod Computing
+pub mod Cases
+pub mod Changed
+pub mod Again
+pub mod Unchanged
+pub mod LeftLines
+pub mod Longest
+pub mod Spelled
+pub mod Legal

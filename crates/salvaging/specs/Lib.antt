@@ -1,0 +1,6 @@
+pub mod Lines
+pub mod Steps
+pub mod Fixes
+pub mod Salvage
+pub mod Neat
+pub mod Cases
