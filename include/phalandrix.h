@@ -50,6 +50,7 @@ typedef struct phalandrix_answer {
     REFUSAL(8, UNSETTLED, "the schedule does not repeat within `rounds` hyperperiods") \
     REFUSAL(9, PAST_THE_STOP, "the instant asked is at or past the stop of the walk") \
     REFUSAL(10, SHORT_BUFFER, "the text of the answer is longer than the buffer") \
+    REFUSAL(11, WRONG_LENGTHS, "the tables are not 1 to 16, or their lengths do not add up to the bytes given") \
     REFUSAL(12, CANNOT_KEEP_UP, "a node can never keep up: its budget is above its level times its period")
 
 /* The numbers: PHALANDRIX_ANSWERED, and one for each refusal above. */
@@ -91,6 +92,28 @@ phalandrix_answer phalandrix_report(const uint8_t *table, size_t table_length,
  * priority order; invocation 0 for one that is not linked; no text for an idle tick. */
 phalandrix_answer phalandrix_row(const uint8_t *table, size_t table_length, uint64_t instant,
                                  uint8_t *buffer, size_t buffer_length);
+
+/* The tables of one call, at most. */
+enum { PHALANDRIX_TABLES = 16 };
+
+/* number 0, line 0 and as many answers as tables; or the number of a refusal, its line and count 0.
+ * The answers past the count are all zeros. */
+typedef struct phalandrix_batch_answer {
+    uint32_t number;
+    uint32_t line;
+    size_t count;
+    phalandrix_answer answers[PHALANDRIX_TABLES];
+} phalandrix_batch_answer;
+
+/* The reports of 1 to 16 tables that stand end to end, with a list of their lengths. The buffer is
+ * cut into equal shares of buffer_length / count bytes, one per table: share i, from 0, begins at i
+ * times that. Each answer and share are what phalandrix_report gives for that table and share, so
+ * one table's refusal leaves the others as they are; bytes behind the last share are left as they
+ * were. PHALANDRIX_WRONG_LENGTHS, before all others, is for the call as a whole: nothing is then
+ * written. The three ranges must not overlap. */
+phalandrix_batch_answer phalandrix_batch(const uint8_t *tables, size_t tables_length,
+                                         const size_t *lengths, size_t count,
+                                         uint8_t *buffer, size_t buffer_length);
 
 #ifdef __cplusplus
 }

@@ -1,11 +1,12 @@
 // The question that the arguments ask.
 use crate::instants::Instant;
+use crate::lengths::Lengths;
 use scanning::Found;
 ghost use mathlib.Core.Path.{_≡_};
 ghost use mathlib.Core.List.{List};
 ghost use Prim.Native.Nat.{ℕ, _≤_};
 ghost use lib.ListN.{length, take};
-ghost use Rattle.asking.specs.Questions.{isWord, row, longestWord, rowAsked, asked, Told, questionOf};
+ghost use Rattle.asking.specs.Questions.{isWord, row, batch, longestWord, rowAsked, rowAskedBy, batchAsked, asked, Told, questionOf};
 
 pub enum Question {
     Report,
@@ -14,6 +15,8 @@ pub enum Question {
 
 pub enum Asked {
     Answer(Question),
+    // several tables in one call; their lengths stand beside this
+    Batch,
     Usage,
     // an argument that the system did not hand over
     Unread,
@@ -32,6 +35,16 @@ pub fn is_row(word: &[u8]) -> bool
     }
 }
 
+pub fn is_batch(word: &[u8]) -> bool
+    ensures { λ r. ⌜ r ≡ isWord batch (now (word .entry)) ⌝ }
+{
+    let found = scanning::text_at(word, 0, *b"batch\0\0\0\0\0", 5);
+    match found {
+        Found::After(p) => word.len() <= p,
+        Found::Wrong(_) => false,
+    }
+}
+
 pub fn row_asked(instant: Instant) -> Asked
     ensures { λ r. ⌜ r ≡ rowAsked instant ⌝ }
 {
@@ -42,12 +55,21 @@ pub fn row_asked(instant: Instant) -> Asked
     }
 }
 
-pub fn asked_by(count: usize, word: &[u8], instant: Instant) -> Asked
-    ensures { λ r. ⌜ r ≡ asked count (now (word .entry)) instant ⌝ }
+pub fn batch_asked(lengths: Lengths) -> Asked
+    ensures { λ r. ⌜ r ≡ batchAsked lengths ⌝ }
 {
-    if count == 1 {
-        return Asked::Answer(Question::Report);
+    if lengths.unread {
+        return Asked::Unread;
     }
+    if lengths.misspelled {
+        return Asked::Usage;
+    }
+    Asked::Batch
+}
+
+pub fn row_asked_by(count: usize, word: &[u8], instant: Instant) -> Asked
+    ensures { λ r. ⌜ r ≡ rowAskedBy count (now (word .entry)) instant ⌝ }
+{
     if count == 3 {
         if is_row(word) {
             return row_asked(instant);
@@ -56,13 +78,25 @@ pub fn asked_by(count: usize, word: &[u8], instant: Instant) -> Asked
     Asked::Usage
 }
 
-// By how many arguments there are, the program's own name among them; the first n bytes of the room that argument 1 was put into; and the
-// instant that argument 2 spells.
-pub fn question_of(count: usize, room: &[u8], n: usize, instant: Instant) -> Asked
+pub fn asked_by(count: usize, word: &[u8], instant: Instant, lengths: Lengths) -> Asked
+    ensures { λ r. ⌜ r ≡ asked count (now (word .entry)) instant lengths ⌝ }
+{
+    if count == 1 {
+        return Asked::Answer(Question::Report);
+    }
+    if is_batch(word) {
+        return batch_asked(lengths);
+    }
+    row_asked_by(count, word, instant)
+}
+
+// By how many arguments there are, the program's own name among them; the first n bytes of the room that argument 1 was put into; the
+// instant that argument 2 spells; and the lengths that the arguments from 2 on spell.
+pub fn question_of(count: usize, room: &[u8], n: usize, instant: Instant, lengths: Lengths) -> Asked
     requires { ⌜ longestWord ≤ length (now room) ⌝ }
     requires { ⌜ n ≤ length (now room) ⌝ }
-    ensures { λ r. ⌜ r ≡ asked count (take n (now (room .entry))) instant ⌝ }
-    ensures { λ r. ⌜ ((arguments : List (List ℕ)) → Told arguments count (now (room .entry)) n instant → r ≡ questionOf arguments) ⌝ }
+    ensures { λ r. ⌜ r ≡ asked count (take n (now (room .entry))) instant lengths ⌝ }
+    ensures { λ r. ⌜ ((arguments : List (List ℕ)) → Told arguments count (now (room .entry)) n instant lengths → r ≡ questionOf arguments) ⌝ }
 {
-    asked_by(count, &room[..n], instant)
+    asked_by(count, &room[..n], instant, lengths)
 }

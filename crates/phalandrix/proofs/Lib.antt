@@ -1,2 +1,3 @@
 pub mod Printed
 pub mod AfterRead
+pub mod Batches

@@ -15,13 +15,13 @@ use Rattle.schedule.specs.Limits.{tableBytes}
 use Rattle.rules.proofs.CutTables.{report-of-cut, row-of-cut}
 use Rattle.rules.specs.Answers.{Reply, says, refuses, printed, reportOf, rowOf, fitted, Call, left, callOf}
 use Rattle.writing.specs.Written.{Written}
-use Rattle.writing.specs.Lengths.{longestReport, longestRow}
+use Rattle.writing.specs.Lengths.{longestReport, longestRow, longestRefusal}
 use Rattle.sheet.proofs.Room.{every-report-fits}
 use Rattle.sheet.proofs.RowRoom.{every-row-fits}
 use Rattle.asking.specs.declared.questions.Question.{Question}
 use Rattle.asking.specs.declared.questions.Question.the-variants.{Report, Row}
 use Rattle.phalandrix.specs.Inputs.{Holds}
-use Rattle.phalandrix.specs.Questions.{replyOf}
+use Rattle.phalandrix.specs.Questions.{replyOf, longestAnswer}
 use borrow.Author.Tests.{le-leb}
 use Rattle.sheet.specs.Calls.{called}
 
@@ -43,6 +43,11 @@ module _ (before after : List ℕ) where
   text-left n (says s) e = record { size = ap (λ (c : Call). toldIn (c .answer)) e; bytes = ap (λ (c : Call). c .buffer) e }
   text-left n (refuses r) e = absurd (subst T (ap (λ (c : Call). isText (c .answer)) e) tt)
 
+  text-bounded : (n m : ℕ) (r : Reply) → ((s : List ℕ) → r ≡ says s → length s ≤ m) → called (Text n) after ≡ left before r → n ≤ m
+  unfolding left
+  text-bounded n m (says s) h e = let size : n ≡ length s = ap (λ (c : Call). toldIn (c .answer)) e in omega (arith, h s refl)
+  text-bounded n m (refuses r) h e = absurd (subst T (ap (λ (c : Call). isText (c .answer)) e) tt)
+
   -- a refused call leaves the buffer as it was
   refusal-left : (f : Refusal) (r : Reply) → called (Refused f) after ≡ left before r → (r ≡ refuses f) × (after ≡ before)
   unfolding left
@@ -59,6 +64,14 @@ reply-fits : (q : Question) (table : List ℕ) (n : ℕ) → longestRow ≤ n �
 reply-fits Report table n l = fits (reportOf table) n longestReport (every-report-fits table) (omega arith)
 reply-fits (Row t) table n l = fits (rowOf table t) n longestRow (every-row-fits table t) l
 
+answer-short : (q : Question) (table s : List ℕ) → replyOf q table ≡ says s → length s ≤ longestAnswer q
+answer-short Report table s e = every-report-fits table s e
+answer-short (Row t) table s e = every-row-fits table t s e
+
+pub refusal-short : (q : Question) (n : ℕ) → n ≤ longestRefusal → n ≤ longestAnswer q
+refusal-short Report n h = omega arith
+refusal-short (Row t) n h = omega arith
+
 module _ (q : Question) (table before after : List ℕ) (room : longestRow ≤ length before) where
   answered : (x : Answer) → called x after ≡ callOf before (replyOf q table) → called x after ≡ left before (replyOf q table)
   unfolding callOf
@@ -66,6 +79,9 @@ module _ (q : Question) (table before after : List ℕ) (room : longestRow ≤ l
 
   pub text-printed : (n : ℕ) → called (Text n) after ≡ callOf before (replyOf q table) → Written (printed (replyOf q table)) before after n
   text-printed n e = text-left before after n (replyOf q table) (answered (Text n) e)
+
+  pub text-short : (n : ℕ) → called (Text n) after ≡ callOf before (replyOf q table) → n ≤ longestAnswer q
+  text-short n e = text-bounded before after n (longestAnswer q) (replyOf q table) (answer-short q table) (answered (Text n) e)
 
   pub refusal-printed : (f : Refusal) (over : List ℕ) (n m : ℕ) → called (Refused f) after ≡ callOf before (replyOf q table)
       → n ≡ length (printed (refuses f)) → Written (printed (refuses f)) after over m → Written (printed (replyOf q table)) before over n

@@ -1,7 +1,9 @@
 -- What a read leaves, and when a room holds an input.
 use mathlib.Core.Path.{_≡_}
+use mathlib.Core.Bool.{cond}
 use mathlib.Core.List.{List}
 use Prim.Native.Nat.{ℕ, zero, suc, _+_, _≤_, _<_}
+use lib.Dec.{ltb}
 use lib.IntN.{ℤ, pos, negsuc}
 use lib.ListN.{length, take}
 use Rattle.io.specs.Counts.{clamped}
@@ -9,6 +11,8 @@ use Rattle.phalandrix.specs.declared.input.Input.{Input}
 use Rattle.phalandrix.specs.declared.input.Input.the-variants as Input
 use Rattle.phalandrix.specs.declared.input.Progress.{Progress}
 use Rattle.phalandrix.specs.declared.input.Progress.the-variants as Progress
+use Rattle.phalandrix.specs.declared.input.Taken.{Taken}
+use Rattle.phalandrix.specs.declared.input.Taken.the-variants as Taken
 use Rattle.phalandrix.specs.declared.input.Reading.{Reading}
 use Rattle.phalandrix.specs.declared.input.Reading.the-variants.{More, Ended, Failed}
 
@@ -38,6 +42,16 @@ abbrev pub Within : ℕ → Input → Type 0
 Within room (Input.Bytes n) = n ≤ room
 Within room Input.Failed = Unit {0}
 
+-- whether an input fills n bytes, and whether it has none
+abbrev pub filledBy : Input → ℕ → Taken
+filledBy (Input.Bytes m) n = cond (ltb m n) Taken.Wrong Taken.Whole
+filledBy Input.Failed n = Taken.Failed
+
+abbrev pub endedBy : Input → Taken
+endedBy (Input.Bytes zero) = Taken.Whole
+endedBy (Input.Bytes (suc n)) = Taken.Wrong
+endedBy Input.Failed = Taken.Failed
+
 -- behind `done` bytes: a byte more at least, and none past the room
 abbrev pub Further : ℕ → ℕ → Progress → Type 0
 Further done room (Progress.On n) = (0 < n) × (done + n ≤ room)
@@ -46,3 +60,7 @@ Further done room (Progress.Over input) = Within room input
 -- the first n bytes of the room are the input, as far as the room goes
 abbrev pub Holds : List ℕ → List ℕ → ℕ → Type 0
 Holds input room n = take n room ≡ take (length room) input
+
+-- a piece of an input
+abbrev pub pieceBytes : ℕ
+pieceBytes = 512

@@ -11,7 +11,7 @@ ghost use Rattle.writing.specs.Lengths.{longestRow};
 ghost use Rattle.writing.specs.Written.{Written};
 ghost use Rattle.sheet.specs.Calls.{called};
 ghost use Rattle.phalandrix.specs.Inputs.{Holds};
-ghost use Rattle.phalandrix.specs.Questions.{replyOf};
+ghost use Rattle.phalandrix.specs.Questions.{replyOf, longestAnswer};
 
 pub fn asked(q: Question, table: &[u8], text: &mut [u8]) -> Answer
     ensures { λ r. ⌜ called r (now (text .exit)) ≡ callOf (now (text .entry)) (replyOf q (now (table .entry))) ⌝ }
@@ -26,6 +26,7 @@ pub fn asked(q: Question, table: &[u8], text: &mut [u8]) -> Answer
 pub fn put_answer(q: Question, table: &[u8], text: &mut [u8]) -> usize
     requires { ⌜ longestRow ≤ length (now text) ⌝ }
     ensures { λ n. ⌜ Written (printed (replyOf q (now (table .entry)))) (now (text .entry)) (now (text .exit)) n ⌝ }
+    ensures { λ n. ⌜ n ≤ longestAnswer q ⌝ }
 {
     let a = asked(q, table, &mut *text);
     match a {

@@ -1,27 +1,34 @@
-// The program: a table on standard input; on standard output its report or, with `row T`, its row at instant T.
+// The program: a table on standard input; on standard output its report or, with `row T`, its row at instant T. With `batch` and lengths, tables
+// end to end on standard input, and what is printed for each.
 mod answering;
+mod batching;
 mod input;
 
 use answering::put_answer_to;
 use asking::Asked;
 use asking::Instant;
+use asking::Lengths;
 use asking::Passed;
 use asking::Question;
 use asking::WORD_ROOM;
+use batching::SLOT;
+use batching::SLOTS;
+use batching::put_batch;
+use batching::take_tables;
+use format::Refusal;
 use input::Input;
+use input::PIECE;
 use input::Reading;
+use input::Taken;
 use input::after_read;
 use input::read_input;
 use libc::STDERR_FILENO;
 use libc::STDIN_FILENO;
 use libc::STDOUT_FILENO;
 use table::Table;
-
-// One byte more than a table may have: no more is read of a longer one, and that is enough to refuse it.
-const TABLE_ROOM: usize = Table::TABLE_BYTES_TO as usize + 1;
-
-// A piece of the command line.
-const PIECE: usize = 512;
+ghost use Prim.Native.Nat.{_≤_};
+ghost use lib.ListN.{length};
+ghost use Rattle.schedule.specs.Limits as Limits;
 
 // Each turn reads a byte or more, and Linux allows some 6 million bytes of arguments: the turns do not run out.
 const TURNS: u32 = 0xffff_ffff;
@@ -36,7 +43,7 @@ enum Line {
 fn print_usage() {
     io::write_all(
         STDERR_FILENO,
-        b"usage: phalandrix < TABLE          the report\n       phalandrix row T < TABLE    the row at instant T\n",
+        b"usage: phalandrix < TABLE          the report\n       phalandrix row T < TABLE    the row at instant T\n       phalandrix batch L1 .. Ln < TABLES    the reports of tables end to end, of these lengths\n",
     );
 }
 
@@ -99,15 +106,27 @@ fn instant_asked(i: usize) -> Instant {
     asking::instant_of(&room[..n])
 }
 
-fn question_asked() -> Asked {
+// The lengths that the arguments from 2 on spell.
+fn lengths_asked() -> Lengths {
+    let count = os::arg_count();
+    let mut lengths = asking::no_lengths();
+    let mut i: usize = 2;
+    while i < count {
+        lengths = asking::lengths_on(lengths, instant_asked(i));
+        i += 1;
+    }
+    lengths
+}
+
+fn question_asked(lengths: Lengths) -> Asked {
     let mut room = [0u8; WORD_ROOM];
     let n = os::arg(1, &mut room);
     let instant = instant_asked(2);
-    asking::question_of(os::arg_count(), &room, n, instant)
+    asking::question_of(os::arg_count(), &room, n, instant, lengths)
 }
 
 fn answer(q: Question) {
-    let mut room = [0u8; TABLE_ROOM];
+    let mut room = [0u8; SLOT];
     let mut text = io::buffer();
     match read_input(STDIN_FILENO, &mut room) {
         Input::Failed => os::fail(b"standard input"),
@@ -118,9 +137,47 @@ fn answer(q: Question) {
     }
 }
 
+fn print_refusal(r: Refusal) {
+    let mut text = io::buffer();
+    let n = writing::refusal_length(r);
+    writing::put_refusal(&mut text, r);
+    print(&text[..n]);
+}
+
+// Nothing is printed before it is known that the input ends where the lengths say.
+fn answer_tables(lengths: &[usize])
+    requires { ⌜ length (now lengths) ≤ Limits.tables .to ⌝ }
+{
+    let mut room = [0u8; SLOTS];
+    let mut text = io::buffer();
+    match take_tables(STDIN_FILENO, lengths, &mut room) {
+        Taken::Whole => {
+            let n = put_batch(lengths, &room, &mut text);
+            print(&text[..n]);
+        }
+        Taken::Wrong => print_refusal(Refusal::WrongLengths),
+        Taken::Failed => os::fail(b"standard input"),
+    }
+}
+
+// No tables at all, and more than the limit, are refused before the input is read.
+fn answer_batch(lengths: Lengths) {
+    let count = lengths.count;
+    let list = lengths.list;
+    if count < Table::TABLES_FROM as usize {
+        return print_refusal(Refusal::WrongLengths);
+    }
+    if Table::TABLES < count {
+        return print_refusal(Refusal::WrongLengths);
+    }
+    answer_tables(&list[..count])
+}
+
 fn main() {
-    match question_asked() {
+    let lengths = lengths_asked();
+    match question_asked(lengths) {
         Asked::Answer(q) => answer(q),
+        Asked::Batch => answer_batch(lengths),
         Asked::Usage => print_usage(),
         Asked::Unread => os::fail(b"/proc/self/cmdline"),
     }

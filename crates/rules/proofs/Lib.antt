@@ -1,7 +1,9 @@
 pub mod Computing
 pub mod Cases
+pub mod BatchCases
 pub mod Outcomes
 pub mod ReadWellFormed
 pub mod Printed
 pub mod TrueReports
 pub mod CutTables
+pub mod Shares

@@ -6,6 +6,7 @@ mod refusal;
 mod report;
 mod row;
 
+pub use line::put_line;
 pub use refusal::column_of;
 pub use refusal::line_of;
 pub use refusal::number_of;

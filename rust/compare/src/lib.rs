@@ -3,12 +3,14 @@
 //! - `library`: what is compared, the proved library or a stand-in;
 //! - `call`: one call, its answer and every byte around it;
 //! - `check`: all the calls made on one table;
+//! - `batches`: calls on several tables;
 //! - `shrink`, `loose`: a smaller table with the same difference;
 //! - `run`: the tables of a range of seeds, on several threads;
 //! - `outcomes`: what came up, and what never did;
 //! - `options`: the command line.
 #![forbid(unsafe_code)]
 
+pub mod batches;
 pub mod call;
 pub mod check;
 pub mod library;

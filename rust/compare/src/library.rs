@@ -1,13 +1,14 @@
 //! What is compared with the second simulator.
 
 use baseline::Pace;
-use simulator::Answer;
+use simulator::{Answer, Batch};
 
-/// The two calls with a lent buffer; several threads call one library.
+/// The calls with a lent buffer; several threads call one library.
 pub trait Library: Sync {
     fn name(&self) -> &str;
     fn report(&self, table: &[u8], buffer: &mut [u8]) -> Answer;
     fn row(&self, table: &[u8], instant: u64, buffer: &mut [u8]) -> Answer;
+    fn batch(&self, tables: &[u8], lengths: &[usize], buffer: &mut [u8]) -> Batch;
 }
 
 /// A plain engine at one of its paces, in the proved library's place.
@@ -31,6 +32,26 @@ impl Library for Plain {
         let baseline::Answer { number, line, column, length } = baseline::row(self.0, table, instant, buffer);
         Answer { number, line, column, length }
     }
+
+    /// The plain engines have no such call: theirs is made of their reports.
+    fn batch(&self, tables: &[u8], lengths: &[usize], buffer: &mut [u8]) -> Batch {
+        let total = lengths.iter().try_fold(0usize, |sum, &length| sum.checked_add(length));
+        if lengths.is_empty() || lengths.len() > 16 || total != Some(tables.len()) {
+            return Batch { number: 11, line: 0, answers: Vec::new() };
+        }
+        let size = buffer.len() / lengths.len();
+        let mut shares = buffer.chunks_exact_mut(size.max(1));
+        let mut at = 0;
+        let answers = lengths
+            .iter()
+            .map(|&length| {
+                at += length;
+                let share = if size == 0 { Default::default() } else { shares.next().unwrap_or_default() };
+                self.report(&tables[at - length..at], share)
+            })
+            .collect();
+        Batch { number: 0, line: 0, answers }
+    }
 }
 
 /// The proved library, through its C interface.
@@ -51,6 +72,17 @@ impl Library for Proved {
     fn row(&self, table: &[u8], instant: u64, buffer: &mut [u8]) -> Answer {
         let phalandrix::Answer { number, line, column, length } = phalandrix::row(table, instant, buffer);
         Answer { number, line, column, length }
+    }
+
+    fn batch(&self, tables: &[u8], lengths: &[usize], buffer: &mut [u8]) -> Batch {
+        let batch = phalandrix::batch(tables, lengths, buffer);
+        let none = phalandrix::Answer { number: 0, line: 0, length: 0 };
+        assert!(batch.answers[batch.count..].iter().all(|answer| *answer == none), "past the count: all zeros");
+        let answers = batch.answers[..batch.count]
+            .iter()
+            .map(|&phalandrix::Answer { number, line, length }| Answer { number, line, length })
+            .collect();
+        Batch { number: batch.number, line: batch.line, answers }
     }
 }
 

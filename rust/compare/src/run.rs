@@ -1,12 +1,13 @@
 //! The tables of a range of seeds, shared among threads.
 
+use crate::batches::{check_batch, numbers};
 use crate::call::Difference;
 use crate::check::{Checked, Effort, check};
 use crate::library::Library;
 use crate::options::Options;
 use crate::outcomes::Outcomes;
 use crate::shrink::shrink;
-use generator::{Rng, make};
+use generator::{Rng, make, make_batch};
 use simulator::question::judge;
 use simulator::walk::walk;
 use simulator::{Reply, demand3};
@@ -19,8 +20,12 @@ use std::thread;
 #[derive(Clone, Debug, PartialEq, Eq)]
 pub enum Fault {
     Differs { seed: u64, table: Vec<u8>, difference: Box<Difference> },
+    Batch { seed: u64, tables: Vec<u8>, what: String },
     Demand3 { seed: u64, table: Vec<u8>, what: String },
 }
+
+/// Every so many seeds a call on several tables is made.
+const BATCHES: u64 = 4;
 
 /// Hyperperiods past the stop over which demand 3 is checked.
 const PAST: u32 = 3;
@@ -71,9 +76,22 @@ fn run_seed(library: &dyn Library, seed: u64, by_force: bool, outcomes: &mut Out
     }
     outcomes.reports[report_number(&report)] += 1;
     outcomes.calls.iter_mut().zip(calls).for_each(|(all, calls)| *all += calls);
+    if seed.is_multiple_of(BATCHES) {
+        run_batch(library, seed, outcomes)?;
+    }
     if by_force {
         outcomes.looked(force(seed, &table)?);
     }
+    Ok(())
+}
+
+/// One call on several tables.
+fn run_batch(library: &dyn Library, seed: u64, outcomes: &mut Outcomes) -> Result<(), Fault> {
+    let asked = make_batch(seed);
+    let answer =
+        check_batch(library, &asked).map_err(|what| Fault::Batch { seed, tables: asked.tables, what })?;
+    outcomes.batches += 1;
+    numbers(&answer).into_iter().for_each(|number| outcomes.calls[number] += 1);
     Ok(())
 }
 
@@ -125,7 +143,7 @@ impl Fault {
     /// The seed of its table.
     fn seed(&self) -> u64 {
         match self {
-            Fault::Differs { seed, .. } | Fault::Demand3 { seed, .. } => *seed,
+            Fault::Differs { seed, .. } | Fault::Batch { seed, .. } | Fault::Demand3 { seed, .. } => *seed,
         }
     }
 }
@@ -136,6 +154,9 @@ impl fmt::Display for Fault {
             Fault::Differs { seed, table, difference } => {
                 writeln!(out, "seed {seed} differs; shrunken table:\n{}", shown(table))?;
                 write!(out, "{difference}")
+            }
+            Fault::Batch { seed, tables, what } => {
+                write!(out, "seed {seed} differs: {what}\n{}", shown(tables))
             }
             Fault::Demand3 { seed, table, what } => {
                 write!(out, "seed {seed} breaks demand 3: {what}\n{}", shown(table))

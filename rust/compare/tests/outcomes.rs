@@ -5,7 +5,7 @@ use compare::library::{Library, Plain};
 use compare::options::Options;
 use compare::outcomes::{Numbers, Outcomes, REFUSALS};
 use compare::run::run;
-use simulator::Answer;
+use simulator::{Answer, Batch};
 use std::process::Command;
 
 /// Outcomes that have all come up once.
@@ -73,6 +73,10 @@ impl Library for OftenWrong {
 
     fn row(&self, table: &[u8], instant: u64, buffer: &mut [u8]) -> Answer {
         Plain(Pace::Tick).row(table, instant, buffer)
+    }
+
+    fn batch(&self, tables: &[u8], lengths: &[usize], buffer: &mut [u8]) -> Batch {
+        Plain(Pace::Tick).batch(tables, lengths, buffer)
     }
 }
 

@@ -6,9 +6,11 @@
 //! - `kinds`: one maker per kind of table;
 //! - `limits`: tables at a limit or one past it;
 //! - `damage`: texts that are no tables any more;
-//! - `make`: the table of a seed, of any kind.
+//! - `make`: the table of a seed, of any kind;
+//! - `batches`: several tables with their lengths, or wrong ones.
 #![forbid(unsafe_code)]
 
+pub mod batches;
 pub mod damage;
 pub mod fill;
 pub mod kinds;
@@ -17,6 +19,7 @@ pub mod make;
 pub mod rng;
 pub mod shapes;
 
+pub use batches::{Batch, make_batch};
 pub use kinds::Kind;
 pub use make::{Made, make};
 pub use rng::Rng;

@@ -8,24 +8,25 @@ use Rattle.asking.proofs.questions.asked_by.Tie as tie
 returns : tie.Need-returns
 returns c = rw (c .if1 .taken)
 
-is-row-requires : tie.Need-is-row-requires
-is-row-requires c κs = search needs
+is-batch-requires : tie.Need-is-batch-requires
+is-batch-requires c κs = search needs
 
-row-asked-requires : tie.Need-row-asked-requires
-row-asked-requires c κs = search needs
+batch-asked-requires : tie.Need-batch-asked-requires
+batch-asked-requires c κs = search needs
 
 returns-2 : tie.Need-returns-2
 returns-2 c =
-    rw (c .before .before .before .if2 .taken, sym (c .before .before .is-row .ensures) ∙ c .before .if3 .taken) (c .row-asked .ensures)
+    let count = c .before .before .before .before .before .args .count in
+    rw (ne-eqb count 1 (c .before .before .before .if1 .left), sym (c .before .before .is-batch .ensures) ∙ c .before .if2 .taken) (c .batch-asked .ensures)
+
+row-asked-by-requires : tie.Need-row-asked-by-requires
+row-asked-by-requires c κs = search needs
 
 returns-3 : tie.Need-returns-3
-returns-3 c = rw (c .before .before .if2 .taken, sym (c .before .is-row .ensures) ∙ c .if3 .left)
-
-returns-4 : tie.Need-returns-4
-returns-4 c =
-    let count = c .before .before .before .args .count in
-    rw (ne-eqb count 1 (c .before .if1 .left), ne-eqb count 3 (c .if2 .left))
+returns-3 c =
+    let count = c .before .before .before .before .before .args .count in
+    rw (ne-eqb count 1 (c .before .before .before .if1 .left), sym (c .before .before .is-batch .ensures) ∙ c .before .if2 .left) (c .row-asked-by .ensures)
 
 pub asked-by-spec : {M : Type 1} → statement M
 asked-by-spec =
-    tie.close (tie.spec returns is-row-requires row-asked-requires returns-2 returns-3 returns-4)
+    tie.close (tie.spec returns is-batch-requires batch-asked-requires returns-2 row-asked-by-requires returns-3)

@@ -1,5 +1,5 @@
 -- `put_answer` meets its contract, by what the call answered.
-use Rattle.phalandrix.proofs.Printed.{text-printed, refusal-printed}
+use Rattle.phalandrix.proofs.Printed.{text-printed, text-short, refusal-printed, refusal-short}
 use borrow.Author.Needs.{needs}
 use Rattle.phalandrix.proofs.answering.put_answer.Statement.{statement}
 use Rattle.phalandrix.proofs.answering.put_answer.Tie as tie
@@ -27,7 +27,8 @@ returns c =
     let asked = c .before .before .before .before .before in
     let s = asked .before .before .before .before in
     let call = asked .asked .ensures in
-    text-printed (s .args .q) (s .args .table .now) _ _ (s .pre) _ (rw (c .before .a .given .1) at call)
+    let told = rw (c .before .a .given .1) at call in
+    (text-printed (s .args .q) (s .args .table .now) _ _ (s .pre) _ told, text-short (s .args .q) (s .args .table .now) _ _ (s .pre) _ told)
 
 same-length-2 : tie.Need-same-length-2
 same-length-2 c = search needs
@@ -37,8 +38,10 @@ returns-2 c =
     let told = c .before .before .before .before in
     let asked = told .before .before .before .before .before .before in
     let s = asked .before .before .before .before in
-    let call = asked .asked .ensures in
-    refusal-printed (s .args .q) (s .args .table .now) _ _ (s .pre) _ _ _ _ (rw (told .before .before .a2 .given .1) at call) (told .refusal-length .ensures .size) (c .before .before .put-refusal .ensures)
+    let call = asked .asked .ensures in (
+      refusal-printed (s .args .q) (s .args .table .now) _ _ (s .pre) _ _ _ _ (rw (told .before .before .a2 .given .1) at call) (told .refusal-length .ensures .size) (c .before .before .put-refusal .ensures),
+      refusal-short (s .args .q) _ (told .refusal-length .ensures .within),
+    )
 
 pub put-answer-spec : {M : Type 1} → statement M
 put-answer-spec =

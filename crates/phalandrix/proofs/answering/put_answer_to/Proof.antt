@@ -19,7 +19,7 @@ same-length c = search needs
 returns : tie.Need-returns
 returns c =
     let s = c .before .before .before .before .before .before .before in
-    let w = c .before .before .put-answer .ensures in
+    let w = c .before .before .put-answer .ensures .0 in
     (held-printed (s .args .q) (now (s .args .room)) _ _ (s .args .n) _ (s .pre .0) w, written-within _ _ _ _ w)
 
 pub put-answer-to-spec : {M : Type 1} → statement M
