@@ -96,11 +96,12 @@ phalandrix_answer phalandrix_row(const uint8_t *table, size_t table_length, uint
 /* The tables of one call, at most. */
 enum { PHALANDRIX_TABLES = 16 };
 
-/* number 0, line 0 and as many answers as tables; or the number of a refusal, its line and count 0.
- * The answers past the count are all zeros. */
+/* number, line and column 0 and as many answers as tables; or the number of a refusal, with line,
+ * column and count 0. The answers past the count are all zeros. */
 typedef struct phalandrix_batch_answer {
     uint32_t number;
     uint32_t line;
+    uint32_t column;
     size_t count;
     phalandrix_answer answers[PHALANDRIX_TABLES];
 } phalandrix_batch_answer;

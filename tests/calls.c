@@ -1,5 +1,6 @@
 /* The calls from C, on document 01's 12-line table: the text, the answer, and every byte of the
- * buffer around the text; for several tables the answers and every byte of the shares. And the sentences of the refusals, by their names and numbers. */
+ * buffer around the text; for several tables the answers and every byte of the shares. And the
+ * sentences of the refusals, by their names and numbers. */
 #include "phalandrix.h"
 
 #include <stdio.h>
@@ -76,11 +77,11 @@ static void expect_batch(const char *name, const char *bytes, const size_t *leng
 
     memset(b, UNTOUCHED, ROOM);
     a = phalandrix_batch((const uint8_t *)bytes, strlen(bytes), lengths, count, b, room);
-    fine = a.number == number && a.line == 0 && a.count == (number == 0 ? count : 0)
+    fine = a.number == number && a.line == 0 && a.column == 0 && a.count == (number == 0 ? count : 0)
         && strlen(left) == room;
     for (size_t i = 0; i < PHALANDRIX_TABLES; i++)
         fine = fine && a.answers[i].number == (i < a.count ? numbers[i] : 0)
-            && (i < a.count || (a.answers[i].line == 0 && a.answers[i].length == 0));
+            && (i < a.count || (a.answers[i].line == 0 && a.answers[i].column == 0 && a.answers[i].length == 0));
     for (size_t i = 0; i < ROOM; i++)
         fine = fine && b[i] == (i < room && left[i] != '.' ? (uint8_t)left[i] : UNTOUCHED);
     if (!fine) {

@@ -1,11 +1,8 @@
--- What a read leaves, and when a room holds an input.
-use mathlib.Core.Path.{_≡_}
+-- What a read leaves.
 use mathlib.Core.Bool.{cond}
-use mathlib.Core.List.{List}
 use Prim.Native.Nat.{ℕ, zero, suc, _+_, _≤_, _<_}
 use lib.Dec.{ltb}
 use lib.IntN.{ℤ, pos, negsuc}
-use lib.ListN.{length, take}
 use Rattle.io.specs.Counts.{clamped}
 use Rattle.phalandrix.specs.declared.input.Input.{Input}
 use Rattle.phalandrix.specs.declared.input.Input.the-variants as Input
@@ -56,10 +53,6 @@ endedBy Input.Failed = Taken.Failed
 abbrev pub Further : ℕ → ℕ → Progress → Type 0
 Further done room (Progress.On n) = (0 < n) × (done + n ≤ room)
 Further done room (Progress.Over input) = Within room input
-
--- the first n bytes of the room are the input, as far as the room goes
-abbrev pub Holds : List ℕ → List ℕ → ℕ → Type 0
-Holds input room n = take n room ≡ take (length room) input
 
 -- a piece of an input
 abbrev pub pieceBytes : ℕ

@@ -1,3 +1,1 @@
 pub mod Inputs
-pub mod Questions
-pub mod Batches

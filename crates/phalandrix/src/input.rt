@@ -1,8 +1,8 @@
 // Reading an input.
 ghost use mathlib.Core.Path.{_≡_};
-ghost use Prim.Native.Nat.{_≤_, min};
+ghost use Prim.Native.Nat.{_≤_};
 ghost use lib.ListN.{length};
-ghost use Rattle.phalandrix.specs.Inputs.{afterRead, Read, inputAfter, Further, Within, filledBy, endedBy, pieceBytes};
+ghost use Rattle.phalandrix.specs.Inputs.{afterRead, Read, inputAfter, Further, Within, filledBy, endedBy};
 
 // A piece of an input.
 pub const PIECE: usize = 512;
@@ -119,54 +119,4 @@ pub fn at_end(fd: i32) -> Taken {
     let mut byte = [0u8; 1];
     let input = read_input(fd, &mut byte);
     ended(input)
-}
-
-pub fn least(a: usize, b: usize) -> usize
-    ensures { λ r. ⌜ r ≡ min a b ⌝ }
-{
-    if a < b { a } else { b }
-}
-
-// Bytes that nobody needs: a piece of them, and all.
-pub fn skip_piece(fd: i32, n: usize) -> Taken
-    requires { ⌜ n ≤ pieceBytes ⌝ }
-{
-    let mut piece = [0u8; PIECE];
-    fill(fd, &mut piece[..n])
-}
-
-pub fn skip(fd: i32, n: usize) -> Taken {
-    let mut left = n;
-    while left > 0 {
-        let k = least(left, PIECE);
-        match skip_piece(fd, k) {
-            Taken::Whole => {
-                left -= k;
-            }
-            Taken::Wrong => {
-                return Taken::Wrong;
-            }
-            Taken::Failed => {
-                return Taken::Failed;
-            }
-        }
-    }
-    Taken::Whole
-}
-
-// The next table of an input, of that length. Of one that is longer than its slot, what does not fit is passed over: a slot past the limit of a
-// table's bytes holds enough to refuse it. The largest u32 stands for every length that is none.
-pub fn take_table(fd: i32, bytes: usize, slot: &mut [u8]) -> Taken {
-    if u32::MAX as usize <= bytes {
-        return Taken::Wrong;
-    }
-    let size = slot.len();
-    if bytes <= size {
-        return fill(fd, &mut slot[..bytes]);
-    }
-    match fill(fd, slot) {
-        Taken::Whole => skip(fd, bytes - size),
-        Taken::Wrong => Taken::Wrong,
-        Taken::Failed => Taken::Failed,
-    }
 }

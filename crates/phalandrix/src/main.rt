@@ -1,20 +1,14 @@
 // The program: a table on standard input; on standard output its report or, with `row T`, its row at instant T. With `batch` and lengths, tables
 // end to end on standard input, and what is printed for each.
-mod answering;
-mod batching;
 mod input;
+mod taking;
 
-use answering::put_answer_to;
 use asking::Asked;
 use asking::Instant;
 use asking::Lengths;
 use asking::Passed;
 use asking::Question;
 use asking::WORD_ROOM;
-use batching::SLOT;
-use batching::SLOTS;
-use batching::put_batch;
-use batching::take_tables;
 use format::Refusal;
 use input::Input;
 use input::PIECE;
@@ -25,7 +19,12 @@ use input::read_input;
 use libc::STDERR_FILENO;
 use libc::STDIN_FILENO;
 use libc::STDOUT_FILENO;
+use printing::SLOT;
+use printing::SLOTS;
+use printing::put_answer_to;
+use printing::put_batch;
 use table::Table;
+use taking::take_tables;
 ghost use Prim.Native.Nat.{_≤_};
 ghost use lib.ListN.{length};
 ghost use Rattle.schedule.specs.Limits as Limits;

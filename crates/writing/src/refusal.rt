@@ -63,6 +63,7 @@ pub fn column_of(r: Refusal) -> u32
         Refusal::Unsettled => 0,
         Refusal::PastTheStop => 0,
         Refusal::ShortBuffer => 0,
+        Refusal::WrongLengths => 0,
         Refusal::CannotKeepUp => 0,
     }
 }

@@ -37,7 +37,7 @@ impl Library for Plain {
     fn batch(&self, tables: &[u8], lengths: &[usize], buffer: &mut [u8]) -> Batch {
         let total = lengths.iter().try_fold(0usize, |sum, &length| sum.checked_add(length));
         if lengths.is_empty() || lengths.len() > 16 || total != Some(tables.len()) {
-            return Batch { number: 11, line: 0, answers: Vec::new() };
+            return Batch { number: 11, line: 0, column: 0, answers: Vec::new() };
         }
         let size = buffer.len() / lengths.len();
         let mut shares = buffer.chunks_exact_mut(size.max(1));
@@ -50,7 +50,7 @@ impl Library for Plain {
                 self.report(&tables[at - length..at], share)
             })
             .collect();
-        Batch { number: 0, line: 0, answers }
+        Batch { number: 0, line: 0, column: 0, answers }
     }
 }
 
@@ -76,13 +76,13 @@ impl Library for Proved {
 
     fn batch(&self, tables: &[u8], lengths: &[usize], buffer: &mut [u8]) -> Batch {
         let batch = phalandrix::batch(tables, lengths, buffer);
-        let none = phalandrix::Answer { number: 0, line: 0, length: 0 };
+        let none = phalandrix::Answer { number: 0, line: 0, column: 0, length: 0 };
         assert!(batch.answers[batch.count..].iter().all(|answer| *answer == none), "past the count: all zeros");
         let answers = batch.answers[..batch.count]
             .iter()
-            .map(|&phalandrix::Answer { number, line, length }| Answer { number, line, length })
+            .map(|&phalandrix::Answer { number, line, column, length }| Answer { number, line, column, length })
             .collect();
-        Batch { number: batch.number, line: batch.line, answers }
+        Batch { number: batch.number, line: batch.line, column: batch.column, answers }
     }
 }
 

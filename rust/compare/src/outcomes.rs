@@ -17,7 +17,7 @@ pub struct Outcomes {
     pub reports: Numbers,
     /// Calls by the number of their answer.
     pub calls: Numbers,
-    /// Calls on several tables.
+    /// Calls on several tables that were answered.
     pub batches: u64,
     /// Tables looked at for demand 3.
     pub forced: u64,
@@ -40,6 +40,7 @@ impl Outcomes {
         let refusals = REFUSALS.map(|number| (format!("refusal {number}"), self.calls[number]));
         let mut all: Vec<(String, u64)> = vec![("a settled table".into(), self.reports[0])];
         all.extend(refusals);
+        all.push(("an answered call on several tables".into(), self.batches));
         if demand_3 {
             all.push(("an invocation within its figure".into(), self.invocations));
             all.push(("a figure attained".into(), self.attained));
@@ -69,7 +70,7 @@ impl fmt::Display for Outcomes {
         for number in REFUSALS {
             write!(out, ", refused as {number} {}", self.calls[number])?;
         }
-        write!(out, "; {} calls on several tables", self.batches)?;
+        write!(out, "; {} calls answered on several tables", self.batches)?;
         write!(
             out,
             "; demand 3 on {} tables, {} invocations, {} figures attained",

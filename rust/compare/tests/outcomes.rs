@@ -11,7 +11,7 @@ use std::process::Command;
 /// Outcomes that have all come up once.
 fn all() -> Outcomes {
     let once = Numbers::default().map(|_| 1);
-    Outcomes { reports: once, calls: once, forced: 1, invocations: 1, attained: 1 }
+    Outcomes { reports: once, calls: once, batches: 1, forced: 1, invocations: 1, attained: 1 }
 }
 
 #[test]
@@ -25,6 +25,7 @@ fn each_outcome_is_missed() {
     let mut unsettled = all();
     unsettled.reports[0] = 0;
     assert_eq!(unsettled.missing(true), ["a settled table"]);
+    assert_eq!(Outcomes { batches: 0, ..all() }.missing(true), ["an answered call on several tables"]);
     let bare = Outcomes { invocations: 0, attained: 0, ..all() };
     assert_eq!(bare.missing(true), ["an invocation within its figure", "a figure attained"]);
     assert!(bare.missing(false).is_empty());

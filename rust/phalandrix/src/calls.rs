@@ -36,8 +36,8 @@ impl Answer {
     }
 }
 
-/// What a call on several tables returns: number 0, line 0 and as many answers as tables; or the number of a
-/// refusal, its line and count 0. The answers past the count are all zeros.
+/// What a call on several tables returns: number, line and column 0 and as many answers as tables; or the
+/// number of a refusal and count 0. The answers past the count are all zeros.
 #[repr(C)]
 #[derive(Clone, Copy, Debug, PartialEq, Eq)]
 #[must_use = "it may be a refusal"]
@@ -46,6 +46,8 @@ pub struct BatchAnswer {
     pub number: u32,
     /// Always 0.
     pub line: u32,
+    /// Always 0.
+    pub column: u32,
     /// How many tables were answered.
     pub count: usize,
     /// The answer to each table.
@@ -61,7 +63,7 @@ impl BatchAnswer {
     pub fn result(&self) -> Result<&[Answer], Refusal> {
         match self.number {
             0 => Ok(&self.answers[..self.count]),
-            number => Err(Refusal::new(number, self.line)),
+            number => Err(Refusal::new(number, self.line, self.column)),
         }
     }
 }

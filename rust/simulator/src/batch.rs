@@ -4,12 +4,13 @@ use crate::limits;
 use crate::question::report;
 use crate::reply::{Answer, lend};
 
-/// What a call on several tables returns: number 0, line 0 and an answer for each table; or refusal 11
-/// and no answer.
+/// What a call on several tables returns: number, line and column 0 and an answer for each table;
+/// or refusal 11 and no answer.
 #[derive(Clone, Debug, PartialEq, Eq)]
 pub struct Batch {
     pub number: u32,
     pub line: u32,
+    pub column: u32,
     pub answers: Vec<Answer>,
 }
 
@@ -19,7 +20,7 @@ pub fn batch(tables: &[u8], lengths: &[usize], buffer: &mut [u8]) -> Batch {
     let total: u128 = lengths.iter().map(|&length| length as u128).sum();
     let count = u32::try_from(lengths.len()).unwrap_or(u32::MAX);
     if !limits::TABLES.holds(count) || total != tables.len() as u128 {
-        return Batch { number: 11, line: 0, answers: Vec::new() };
+        return Batch { number: 11, line: 0, column: 0, answers: Vec::new() };
     }
     let share = buffer.len() / lengths.len();
     let mut rest = tables;
@@ -29,5 +30,5 @@ pub fn batch(tables: &[u8], lengths: &[usize], buffer: &mut [u8]) -> Batch {
         rest = behind;
         answers.push(lend(&report(table), &mut buffer[i * share..(i + 1) * share]));
     }
-    Batch { number: 0, line: 0, answers }
+    Batch { number: 0, line: 0, column: 0, answers }
 }

@@ -10,11 +10,11 @@ const SAYS_A: &str = "answer=0\nround=1\nticks=4\nresponse=1\n";
 const SAYS_B: &str = "answer=0\nround=2\nticks=8\nresponse=6\n";
 
 fn text(length: usize) -> Answer {
-    Answer { number: 0, line: 0, length }
+    Answer { number: 0, line: 0, column: 0, length }
 }
 
-fn refused(number: u32, line: u32) -> Answer {
-    Answer { number, line, length: 0 }
+fn refused(number: u32, line: u32, column: u32) -> Answer {
+    Answer { number, line, column, length: 0 }
 }
 
 /// The answers and the whole buffer, `.` before the call.
@@ -22,13 +22,14 @@ fn gives(tables: &[&str], room: usize, answers: &[Answer], left: &str) {
     let lengths: Vec<usize> = tables.iter().map(|table| table.len()).collect();
     let mut buffer = vec![b'.'; room];
     let got = batch(tables.concat().as_bytes(), &lengths, &mut buffer);
-    assert_eq!(got, Batch { number: 0, line: 0, answers: answers.to_vec() });
+    assert_eq!(got, Batch { number: 0, line: 0, column: 0, answers: answers.to_vec() });
     assert_eq!(String::from_utf8(buffer).unwrap(), left);
 }
 
 fn refuses(bytes: &str, lengths: &[usize]) {
     let mut buffer = [b'.'; 9];
-    assert_eq!(batch(bytes.as_bytes(), lengths, &mut buffer), Batch { number: 11, line: 0, answers: vec![] });
+    let got = batch(bytes.as_bytes(), lengths, &mut buffer);
+    assert_eq!(got, Batch { number: 11, line: 0, column: 0, answers: vec![] });
     assert_eq!(buffer, [b'.'; 9]);
 }
 
@@ -36,7 +37,7 @@ fn refuses(bytes: &str, lengths: &[usize]) {
 fn shares_are_equal_and_the_remainder_is_unchanged() {
     gives(&[A, B], 75, &[text(36), text(36)], &format!("{SAYS_A}.{SAYS_B}.."));
     gives(&[A, B], 73, &[text(36), text(36)], &format!("{SAYS_A}{SAYS_B}."));
-    gives(&[A, B], 71, &[refused(10, 0), refused(10, 0)], &".".repeat(71));
+    gives(&[A, B], 71, &[refused(10, 0, 0), refused(10, 0, 0)], &".".repeat(71));
 }
 
 #[test]
@@ -44,11 +45,11 @@ fn a_refused_table_leaves_the_others() {
     gives(
         &[A, "", B],
         110,
-        &[text(36), refused(2, 1), text(36)],
+        &[text(36), refused(2, 1, 1), text(36)],
         &format!("{SAYS_A}{}{SAYS_B}..", ".".repeat(36)),
     );
     let long = "\n".repeat(4097);
-    gives(&[&long, A], 72, &[refused(1, 0), text(36)], &format!("{}{SAYS_A}", ".".repeat(36)));
+    gives(&[&long, A], 72, &[refused(1, 0, 0), text(36)], &format!("{}{SAYS_A}", ".".repeat(36)));
 }
 
 #[test]
