@@ -70,9 +70,9 @@ module _ (ts : List (List ℕ)) where
 
   pub lengths-are : length ts ≤ most → (told .count ≡ length ts) × (take (told .count) (told .list) ≡ numbers)
   lengths-are h =
-      let n : length (map instantOf ts) ≡ length ts = length-map instantOf ts in
+      let n : length (map instantOf ts) ≡ length ts = length-map ts instantOf in
       let holds : Holds told numbers = all-held (map instantOf ts) noLengths [] (omega (arith, n)) (record { count = refl; list = refl }) in (
-        holds .count ∙ length-map numberIn (map instantOf ts) ∙ n,
+        holds .count ∙ length-map (map instantOf ts) numberIn ∙ n,
         ap (λ (xs : List ℕ). take (told .count) xs) (holds .list) ∙ take-at numbers _ (told .count) (sym (holds .count)),
       )
 
@@ -84,4 +84,4 @@ many (i ∷ is) s h m =
     (by-lt most (s .count) (λ l. rw (count-on s i, lt-leb (s .count) most l) (omega arith)) (λ l. rw (count-on s i, le-leb (s .count) most l) (omega arith)))
 
 pub too-many-told : (ts : List (List ℕ)) → most < length ts → (lengthsBy noLengths (map instantOf ts)) .count ≡ most + 1
-too-many-told ts h = many (map instantOf ts) noLengths (omega arith) (omega (arith, length-map instantOf ts))
+too-many-told ts h = many (map instantOf ts) noLengths (omega arith) (omega (arith, length-map ts instantOf))

@@ -60,17 +60,17 @@ module _ (lengths room : List ℕ) where
   begun before h = record { written = nothing before; short = omega arith; space = h; few = omega arith }
 
   module _ {before after : List ℕ} {at i : ℕ} (p : Put before after at i) where
-    same-length : length after ≡ length before
-    same-length = kept (p .written) (omega (arith, p .written .size, p .short, p .space, p .few))
+    pub put-length : length after ≡ length before
+    put-length = kept (p .written) (omega (arith, p .written .size, p .short, p .space, p .few))
 
     pub put-within : at ≤ length after
-    put-within = omega (arith, same-length, p .short, p .space, p .few)
+    put-within = omega (arith, put-length, p .short, p .space, p .few)
 
     module _ (h : i < Limits.tables .to) where
       pub next-room : longestLine (bytes "table") + longestRow ≤ length (take (length after - at) (drop at after))
       next-room =
           rw (take-all (length after - at) (drop at after) (omega (arith, length-drop at after)))
-          (omega (arith, length-drop at after, same-length, p .short, p .space))
+          (omega (arith, length-drop at after, put-length, p .short, p .space))
 
       -- as the code has it: the slot from its start to its end
       pub put-next : (k : ℕ) → k ≡ min (getD lengths i 0) slotBytes → {u : List ℕ} {m : ℕ}
