@@ -50,7 +50,7 @@ typedef struct phalandrix_answer {
     REFUSAL(8, UNSETTLED, "the schedule does not repeat within `rounds` hyperperiods") \
     REFUSAL(9, PAST_THE_STOP, "the instant asked is at or past the stop of the walk") \
     REFUSAL(10, SHORT_BUFFER, "the text of the answer is longer than the buffer") \
-    REFUSAL(11, WRONG_LENGTHS, "the tables are not 1 to 16, or their lengths do not add up to the bytes given") \
+    REFUSAL(11, WRONG_LENGTHS, "there are not 1 to 16 tables, or their lengths do not add up to the bytes given") \
     REFUSAL(12, CANNOT_KEEP_UP, "a node can never keep up: its budget is above its level times its period")
 
 /* The numbers: PHALANDRIX_ANSWERED, and one for each refusal above. */

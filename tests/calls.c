@@ -141,7 +141,7 @@ int main(void)
     expect_sentence(PHALANDRIX_ANSWERED, "answered");
     expect_sentence(PHALANDRIX_TOO_LONG, "the table has more than 4,096 bytes");
     expect_sentence(10, "the text of the answer is longer than the buffer");
-    expect_sentence(11, "the tables are not 1 to 16");
+    expect_sentence(11, "there are not 1 to 16 tables");
     expect_sentence(12, "a node can never keep up");
     expect_sentence(UINT32_MAX, "no number");
     if (failures == 0)

@@ -1,1 +1,2 @@
 pub mod AfterRead
+pub mod Whole
