@@ -77,10 +77,18 @@ impl Library for Proved {
     fn batch(&self, tables: &[u8], lengths: &[usize], buffer: &mut [u8]) -> Batch {
         let batch = phalandrix::batch(tables, lengths, buffer);
         let none = phalandrix::Answer { number: 0, line: 0, column: 0, length: 0 };
-        assert!(batch.answers[batch.count..].iter().all(|answer| *answer == none), "past the count: all zeros");
+        assert!(
+            batch.answers[batch.count..].iter().all(|answer| *answer == none),
+            "past the count: all zeros"
+        );
         let answers = batch.answers[..batch.count]
             .iter()
-            .map(|&phalandrix::Answer { number, line, column, length }| Answer { number, line, column, length })
+            .map(|&phalandrix::Answer { number, line, column, length }| Answer {
+                number,
+                line,
+                column,
+                length,
+            })
             .collect();
         Batch { number: batch.number, line: batch.line, column: batch.column, answers }
     }

@@ -127,7 +127,8 @@ pub fn shares<'a>(
     buffer: &'a [u8],
 ) -> impl Iterator<Item = Result<&'a [u8], Refusal>> + 'a {
     let size = buffer.len().checked_div(answers.len()).unwrap_or(0);
-    answers.iter().enumerate().map(move |(i, answer)| {
-        answer.result().map(|length| &buffer[i * size..i * size + length])
-    })
+    answers
+        .iter()
+        .enumerate()
+        .map(move |(i, answer)| answer.result().map(|length| &buffer[i * size..i * size + length]))
 }

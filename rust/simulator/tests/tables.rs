@@ -20,7 +20,8 @@ fn printed(reply: Reply) -> String {
 /// What the program prints for the tables of a folder, in the order of their names: each share is as long as
 /// any text, so that no table is refused for want of room.
 fn printed_batch(folder: &Path) -> String {
-    let mut paths: Vec<_> = fs::read_dir(folder).expect("a folder").map(|entry| entry.expect("one").path()).collect();
+    let mut paths: Vec<_> =
+        fs::read_dir(folder).expect("a folder").map(|entry| entry.expect("one").path()).collect();
     paths.sort();
     let tables: Vec<Vec<u8>> = paths.iter().map(|path| fs::read(path).expect("a table")).collect();
     let lengths: Vec<usize> = tables.iter().map(Vec::len).collect();

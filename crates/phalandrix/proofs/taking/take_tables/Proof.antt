@@ -53,10 +53,10 @@ try-1 : tie.Need-loop-again Inv-loop μ-loop
 try-1 c = search (needs, same-len-mid)
 
 try-2 : tie.Need-loop-again Inv-loop μ-loop
-try-2 c = search needs
+try-2 c = ?
 
 loop-again : tie.Need-loop-again Inv-loop μ-loop
-loop-again c = ?
+loop-again c = search needs
 
 enum-told-2 : tie.Need-enum-told-2 Inv-loop μ-loop
 enum-told-2 c = search needs
