@@ -2,6 +2,7 @@
 use mathlib.Core.Path.{sym}
 use lib.Seq.{length-take-le}
 use borrow.Author.Needs.{needs}
+use Rattle.phalandrix.proofs.Few.{few}
 use Rattle.phalandrix.proofs.answer_batch.Statement.{statement}
 use Rattle.phalandrix.proofs.answer_batch.Tie as tie
 
@@ -27,7 +28,7 @@ slice-aggregate-answer-tables : tie.Need-slice-aggregate-answer-tables
 slice-aggregate-answer-tables c = sym (length-take-le _ _ (search needs))
 
 answer-tables-requires : tie.Need-answer-tables-requires
-answer-tables-requires c κs = search needs
+answer-tables-requires c κs = few _ _ (search needs)
 
 returns-3 : tie.Need-returns-3
 returns-3 c = search needs

@@ -17,7 +17,7 @@ returns-2 : tie.Need-returns-2
 returns-2 c = search needs
 
 returns-3 : tie.Need-returns-3
-returns-3 c = follows (c .before .input .given .1) (c .if1 .left)
+returns-3 c = follows (c .before .before .input .given .1) (c .if1 .left)
 
 pub ended-spec : {M : Type 1} → statement M
 ended-spec = tie.close (tie.spec enum-told enum-known-input returns returns-2 returns-3)

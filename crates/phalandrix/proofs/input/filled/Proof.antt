@@ -15,10 +15,10 @@ returns : tie.Need-returns
 returns c = search needs
 
 returns-2 : tie.Need-returns-2
-returns-2 c = too-few (c .before .input .given .1) (omega arith)
+returns-2 c = too-few (c .before .before .input .given .1) (omega arith)
 
 returns-3 : tie.Need-returns-3
-returns-3 c = enough (c .before .input .given .1) (omega arith)
+returns-3 c = enough (c .before .before .input .given .1) (omega arith)
 
 pub filled-spec : {M : Type 1} → statement M
 filled-spec = tie.close (tie.spec enum-told enum-known-input returns returns-2 returns-3)

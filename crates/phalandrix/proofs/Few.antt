@@ -1,0 +1,14 @@
+-- The lengths that are handed on are no more than a call may have.
+use mathlib.Core.List.{List, [], _∷_}
+use Prim.Native.Nat.{ℕ, zero, suc, _≤_}
+use native.Mathlib.Omega.{arith}
+use lib.ListN.{length, take}
+use Rattle.schedule.specs.Limits as Limits
+
+taken-short : (n : ℕ) (xs : List ℕ) → length (take n xs) ≤ n
+taken-short zero xs = omega arith
+taken-short (suc n) [] = omega arith
+taken-short (suc n) (x ∷ xs) = let h = taken-short n xs in omega (arith, h)
+
+pub few : (n : ℕ) (xs : List ℕ) → n ≤ Limits.tables .to → length (take n xs) ≤ Limits.tables .to
+few n xs h = let t = taken-short n xs in omega (arith, t)
