@@ -2,7 +2,7 @@
 use mathlib.Core.Path.{sym}
 use lib.Seq.{length-take-le}
 use borrow.Author.Needs.{needs}
-use Rattle.phalandrix.proofs.Few.{few}
+use Rattle.phalandrix.proofs.Few.{few, in-field}
 use Rattle.phalandrix.proofs.answer_batch.Statement.{statement}
 use Rattle.phalandrix.proofs.answer_batch.Tie as tie
 
@@ -21,14 +21,20 @@ print-refusal-requires-2 c κs = search needs
 returns-2 : tie.Need-returns-2
 returns-2 c = search needs
 
+try-1 : tie.Need-array-share-prefix-list
+try-1 c = ?
+
+try-2 : tie.Need-answer-tables-requires
+try-2 c κs = ?
+
 array-share-prefix-list : tie.Need-array-share-prefix-list
-array-share-prefix-list c = search needs
+array-share-prefix-list c = search (needs, in-field)
 
 slice-aggregate-answer-tables : tie.Need-slice-aggregate-answer-tables
-slice-aggregate-answer-tables c = sym (length-take-le _ _ (search needs))
+slice-aggregate-answer-tables c = sym (length-take-le _ _ (search (needs, in-field)))
 
 answer-tables-requires : tie.Need-answer-tables-requires
-answer-tables-requires c κs = few _ _ (search needs)
+answer-tables-requires c κs = search (needs, few)
 
 returns-3 : tie.Need-returns-3
 returns-3 c = search needs

@@ -3,7 +3,6 @@ use mathlib.Core.Path.{_≡_}
 use Prim.Native.Nat.{_-_, _≤_}
 use lib.ListN.{length}
 use borrow.Author.Needs.{needs}
-use borrow.Rule.Slice.PartMut.{same-len-mid}
 use Rattle.phalandrix.proofs.taking.take_tables.Statement.{statement}
 use Rattle.phalandrix.proofs.taking.take_tables.Tie as tie
 
@@ -48,12 +47,6 @@ add-i c = search needs
 
 loop-less : tie.Need-loop-less Inv-loop μ-loop
 loop-less c = search needs
-
-try-1 : tie.Need-loop-again Inv-loop μ-loop
-try-1 c = search (needs, same-len-mid)
-
-try-2 : tie.Need-loop-again Inv-loop μ-loop
-try-2 c = ?
 
 loop-again : tie.Need-loop-again Inv-loop μ-loop
 loop-again c = search needs
