@@ -1,7 +1,10 @@
 -- `answer_batch` meets its contract, by the count.
 use mathlib.Core.Path.{sym}
+use Prim.Native.Nat.{_≤_}
+use native.Mathlib.Omega.{arith}
 use lib.Seq.{length-take-le}
 use borrow.Author.Needs.{needs}
+use Rattle.schedule.specs.Limits as Limits
 use Rattle.phalandrix.proofs.Few.{few, in-field}
 use Rattle.phalandrix.proofs.answer_batch.Statement.{statement}
 use Rattle.phalandrix.proofs.answer_batch.Tie as tie
@@ -20,12 +23,6 @@ print-refusal-requires-2 c κs = search needs
 
 returns-2 : tie.Need-returns-2
 returns-2 c = search needs
-
-try-1 : tie.Need-array-share-prefix-list
-try-1 c = ?
-
-try-2 : tie.Need-answer-tables-requires
-try-2 c κs = ?
 
 array-share-prefix-list : tie.Need-array-share-prefix-list
 array-share-prefix-list c = search (needs, in-field)
