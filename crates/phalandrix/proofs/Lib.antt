@@ -1,3 +1,1 @@
-pub mod AfterRead
-pub mod Whole
 pub mod Few

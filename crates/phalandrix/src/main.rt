@@ -1,8 +1,5 @@
 // The program: a table on standard input; on standard output its report or, with `row T`, its row at instant T. With `batch` and lengths, tables
 // end to end on standard input, and what is printed for each.
-mod input;
-mod taking;
-
 use asking::Asked;
 use asking::Instant;
 use asking::Lengths;
@@ -10,12 +7,13 @@ use asking::Passed;
 use asking::Question;
 use asking::WORD_ROOM;
 use format::Refusal;
-use input::Input;
-use input::PIECE;
-use input::Reading;
-use input::Taken;
-use input::after_read;
-use input::read_input;
+use inputs::Input;
+use inputs::PIECE;
+use inputs::Reading;
+use inputs::Taken;
+use inputs::after_read;
+use inputs::read_input;
+use inputs::take_tables;
 use libc::STDERR_FILENO;
 use libc::STDIN_FILENO;
 use libc::STDOUT_FILENO;
@@ -24,7 +22,6 @@ use printing::SLOTS;
 use printing::put_answer_to;
 use printing::put_batch;
 use table::Table;
-use taking::take_tables;
 ghost use Prim.Native.Nat.{_≤_};
 ghost use lib.ListN.{length};
 ghost use Rattle.schedule.specs.Limits as Limits;

@@ -1,10 +1,7 @@
 -- `answer_batch` meets its contract, by the count.
 use mathlib.Core.Path.{sym}
-use Prim.Native.Nat.{_≤_}
-use native.Mathlib.Omega.{arith}
 use lib.Seq.{length-take-le}
 use borrow.Author.Needs.{needs}
-use Rattle.schedule.specs.Limits as Limits
 use Rattle.phalandrix.proofs.Few.{few, in-field}
 use Rattle.phalandrix.proofs.answer_batch.Statement.{statement}
 use Rattle.phalandrix.proofs.answer_batch.Tie as tie
