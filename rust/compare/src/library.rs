@@ -1,7 +1,7 @@
 //! What is compared with the second simulator.
 
 use baseline::Pace;
-use simulator::{Answer, Batch};
+use simulator::{Answer, Batch, limits};
 
 /// The calls with a lent buffer; several threads call one library.
 pub trait Library: Sync {
@@ -36,7 +36,8 @@ impl Library for Plain {
     /// The plain engines have no such call: theirs is made of their reports.
     fn batch(&self, tables: &[u8], lengths: &[usize], buffer: &mut [u8]) -> Batch {
         let total = lengths.iter().try_fold(0usize, |sum, &length| sum.checked_add(length));
-        if lengths.is_empty() || lengths.len() > 16 || total != Some(tables.len()) {
+        let count = u32::try_from(lengths.len()).unwrap_or(u32::MAX);
+        if !limits::TABLES.holds(count) || total != Some(tables.len()) {
             return Batch { number: 11, line: 0, column: 0, answers: Vec::new() };
         }
         let size = buffer.len() / lengths.len();

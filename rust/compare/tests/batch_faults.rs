@@ -73,7 +73,8 @@ fn a_refusal_that_stops_the_others() {
     is_found(|tables, lengths, buffer| {
         let mut batch = plain(tables, lengths, buffer);
         if let Some(first) = batch.answers.iter().position(|answer| answer.number > 0) {
-            batch.answers[first..].fill(batch.answers[first]);
+            let refusal = batch.answers[first];
+            batch.answers[first..].fill(refusal);
         }
         batch
     });

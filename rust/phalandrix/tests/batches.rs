@@ -35,8 +35,8 @@ fn sixteen_tables_and_short_shares() {
     let answer = batch(&TABLE.repeat(TABLES), &[TABLE.len(); TABLES], &mut buffer);
     let answers = answer.result().expect("answered");
     assert_eq!(answers.len(), TABLES);
-    let short = |result: Result<&[u8], phalandrix::Refusal>| result.map_err(|refusal| refusal.reason);
-    assert!(shares(answers, &buffer).all(|result| short(result) == Err(Reason::ShortBuffer)));
+    let results: Vec<_> = shares(answers, &buffer).collect();
+    assert!(results.iter().all(|result| result.unwrap_err().reason == Reason::ShortBuffer));
     assert_eq!(buffer, [0xee; TABLES]);
 }
 
