@@ -140,6 +140,6 @@ fn fault_shows_the_table_and_both_answers() {
     let options = Options { seed: 1, count: 2_000, force: 0, ..Options::default() };
     let shown = run(&Spoilt(spoil), &options).expect_err("a fault").to_string();
     assert!(shown.contains("    processors="), "{shown}");
-    assert!(shown.contains("second simulator: number 8, line 0, length 0"), "{shown}");
-    assert!(shown.contains("library:          number 9, line 0, length 0"), "{shown}");
+    assert!(shown.contains("second simulator: number 8, line 0, column 0, length 0"), "{shown}");
+    assert!(shown.contains("library:          number 9, line 0, column 0, length 0"), "{shown}");
 }
