@@ -8,14 +8,13 @@ use Rattle.schedule.proofs.Walking.{onePassWalk, same-walk}
 use Rattle.rules.specs.Admission.{admissionOf}
 use Rattle.rules.specs.Answers.{reportAdmitted, reportOf}
 use Rattle.rules.specs.Batch.{addUp, batchBy, batchOf, batchPrintedBy, batchPrinted}
-use Rattle.rules.specs.Cases.{lent}
-use Rattle.rules.specs.BatchCases.{BatchCase, batchCases, PrintedCase, printedCases}
+use Rattle.rules.specs.BatchCases.{was, BatchCase, batchCases, PrintedCase, printedCases}
 use Rattle.rules.proofs.Computing.{answering}
 
 -- by the walk of a box
 abbrev Held : (Box → Walked) → Type 0
 Held walk =
-    map (λ (c : BatchCase). batchBy (λ (s : List ℕ). reportAdmitted walk (admissionOf s)) (c .tables) (c .lengths) (lent (c .room))) batchCases
+    map (λ (c : BatchCase). batchBy (λ (s : List ℕ). reportAdmitted walk (admissionOf s)) (c .tables) (c .lengths) (was 0 (c .room))) batchCases
     ≡ map (λ (c : BatchCase). c .gives) batchCases
 
 computed : Held onePassWalk
@@ -25,7 +24,7 @@ computed = refl
 held : Held wholeWalk
 held = subst Held same-walk computed
 
-pub batches-hold : map (λ (c : BatchCase). batchOf (c .tables) (c .lengths) (lent (c .room))) batchCases ≡ map (λ (c : BatchCase). c .gives) batchCases
+pub batches-hold : map (λ (c : BatchCase). batchOf (c .tables) (c .lengths) (was 0 (c .room))) batchCases ≡ map (λ (c : BatchCase). c .gives) batchCases
 unfolding batchOf reportOf
 batches-hold = held
 

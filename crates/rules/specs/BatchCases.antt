@@ -3,12 +3,17 @@ use mathlib.Core.List.{List, [], _∷_, _++_, map}
 use Prim.Native.Nat.{ℕ, suc, _+_, _-_}
 use Prim.Native.String.{String}
 use lib.ListN.{length, replicate}
+use Rattle.schedule.specs.Lists.{numbers}
 use Rattle.format.specs.declared.Refusal.the-variants.{TooLong, Misspelled, NotLoadable, ShortBuffer, WrongLengths}
 use Rattle.format.specs.Bytes.{bytes, lineFeed}
 use Rattle.rules.specs.declared.Answer.{Answer}
 use Rattle.rules.specs.declared.Answer.the-variants.{Text, Refused}
 use Rattle.rules.specs.Batch.{Batch, answers, refuses}
-use Rattle.rules.specs.Cases.{node-1-every-4, chain-3-2, two-graphs, lent}
+use Rattle.rules.specs.Cases.{node-1-every-4, chain-3-2, two-graphs}
+
+-- n bytes of the lent buffer from place i on, as they were: no two are the same, and none is a byte of a text
+abbrev pub was : ℕ → ℕ → List ℕ
+was i n = numbers (1000 + i) n
 
 pub record BatchCase : Type 0 where
   pub tables : List ℕ
@@ -46,7 +51,7 @@ batch ts given buffer =
 
 -- bytes with lengths of any kind, refused as 11 with nothing written
 abbrev pub against : List ℕ → List ℕ → ℕ → BatchCase
-against s lengths n = record { tables = s; lengths = lengths; room = n; gives = record { answered = refuses WrongLengths; buffer = lent n } }
+against s lengths n = record { tables = s; lengths = lengths; room = n; gives = record { answered = refuses WrongLengths; buffer = was 0 n } }
 
 -- 2^64 - 1
 abbrev pub mostLength : ℕ
@@ -55,24 +60,24 @@ mostLength = 18446744073709551615
 unfoldable pub batchCases : List BatchCase
 batchCases =
     -- shares of 37 and 37: the second text begins at 37; the last byte is the remainder
-    batch (A ∷ B ∷ []) (Text 36 ∷ Text 36 ∷ []) (saysA ++ (lent 1 ++ (saysB ++ lent 2)))
+    batch (A ∷ B ∷ []) (Text 36 ∷ Text 36 ∷ []) (saysA ++ (was 36 1 ++ (saysB ++ was 73 2)))
     -- texts that just fit their shares, and shares that are one byte short: the odd byte belongs to none
-    ∷ batch (A ∷ B ∷ []) (Text 36 ∷ Text 36 ∷ []) (saysA ++ (saysB ++ lent 1))
-    ∷ batch (A ∷ B ∷ []) (Refused ShortBuffer ∷ Refused ShortBuffer ∷ []) (lent 71)
+    ∷ batch (A ∷ B ∷ []) (Text 36 ∷ Text 36 ∷ []) (saysA ++ (saysB ++ was 72 1))
+    ∷ batch (A ∷ B ∷ []) (Refused ShortBuffer ∷ Refused ShortBuffer ∷ []) (was 0 71)
     -- one legal and one refused, in either order: 2 × 40 + 1 bytes
-    ∷ batch (A ∷ bytes chain-3-2 ∷ []) (Text 36 ∷ Refused NotLoadable ∷ []) (saysA ++ lent 45)
-    ∷ batch (bytes chain-3-2 ∷ A ∷ []) (Refused NotLoadable ∷ Text 36 ∷ []) (lent 40 ++ (saysA ++ lent 5))
+    ∷ batch (A ∷ bytes chain-3-2 ∷ []) (Text 36 ∷ Refused NotLoadable ∷ []) (saysA ++ was 36 45)
+    ∷ batch (bytes chain-3-2 ∷ A ∷ []) (Refused NotLoadable ∷ Text 36 ∷ []) (was 0 40 ++ (saysA ++ was 76 5))
     -- a share too short for one table alone
-    ∷ batch (C ∷ A ∷ []) (Refused ShortBuffer ∷ Text 36 ∷ []) (lent 40 ++ (saysA ++ lent 5))
+    ∷ batch (C ∷ A ∷ []) (Refused ShortBuffer ∷ Text 36 ∷ []) (was 0 40 ++ (saysA ++ was 76 5))
     -- a length of 0 is an empty table
-    ∷ batch (A ∷ [] ∷ B ∷ []) (Text 36 ∷ Refused (Misspelled 1 1) ∷ Text 36 ∷ []) (saysA ++ (lent 36 ++ (saysB ++ lent 2)))
+    ∷ batch (A ∷ [] ∷ B ∷ []) (Text 36 ∷ Refused (Misspelled 1 1) ∷ Text 36 ∷ []) (saysA ++ (was 36 36 ++ (saysB ++ was 108 2)))
     -- lengths are taken as given: the second table's lines follow the last line of the first
-    ∷ batch ((A ++ B) ∷ [] ∷ []) (Refused (Misspelled 10 1) ∷ Refused (Misspelled 1 1) ∷ []) (lent 80)
+    ∷ batch ((A ++ B) ∷ [] ∷ []) (Refused (Misspelled 10 1) ∷ Refused (Misspelled 1 1) ∷ []) (was 0 80)
     -- the limit of 4,096 bytes is that of one table
-    ∷ batch (replicate 4097 lineFeed ∷ A ∷ []) (Refused TooLong ∷ Text 36 ∷ []) (lent 36 ++ saysA)
+    ∷ batch (replicate 4097 lineFeed ∷ A ∷ []) (Refused TooLong ∷ Text 36 ∷ []) (was 0 36 ++ saysA)
     -- one table is the single call; 16 are the most. Of a share of 0 bytes a table's own refusal comes before 10
-    ∷ batch (A ∷ []) (Text 36 ∷ []) (saysA ++ lent 3)
-    ∷ batch (texts 15 ++ ([] ∷ [])) (replicate 15 (Refused ShortBuffer) ++ (Refused (Misspelled 1 1) ∷ [])) (lent 15)
+    ∷ batch (A ∷ []) (Text 36 ∷ []) (saysA ++ was 36 3)
+    ∷ batch (texts 15 ++ ([] ∷ [])) (replicate 15 (Refused ShortBuffer) ++ (Refused (Misspelled 1 1) ∷ [])) (was 0 15)
     -- none and 17; one short, one over; a sum that wraps at 64 bits to the right one
     ∷ against [] [] 9
     ∷ against (flat (texts 17)) (replicate 17 (length A)) 9
