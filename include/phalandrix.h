@@ -10,8 +10,9 @@
  * Platform: x86-64 Linux. `./build-library` makes target/staticlib/libphalandrix.a, which needs
  * memcpy and memset and nothing else.
  *
- * Time: a call walks at most 1,290,000 ticks. The longest walks took 0.01 to 0.06 seconds where they
- * were measured (docs/BENCHMARK.md); that is not proved. Stack: PHALANDRIX_STACK_BYTES, below.
+ * Time: a call walks at most 1,290,000 ticks for a table. The longest walks took 0.01 to 0.06 seconds
+ * where they were measured (docs/BENCHMARK.md); that is not proved. Stack: PHALANDRIX_STACK_BYTES,
+ * below.
  *
  * This file is the home of the version, of the sentences for people, and of the sizes below: ./run
  * and the Rust package read them from here.
@@ -50,6 +51,7 @@ typedef struct phalandrix_answer {
     REFUSAL(8, UNSETTLED, "the schedule does not repeat within `rounds` hyperperiods") \
     REFUSAL(9, PAST_THE_STOP, "the instant asked is at or past the stop of the walk") \
     REFUSAL(10, SHORT_BUFFER, "the text of the answer is longer than the buffer") \
+    REFUSAL(11, WRONG_LENGTHS, "there are not 1 to 16 tables, or their lengths do not add up to the bytes given") \
     REFUSAL(12, CANNOT_KEEP_UP, "a node can never keep up: its budget is above its level times its period")
 
 /* The numbers: PHALANDRIX_ANSWERED, and one for each refusal above. */
@@ -114,6 +116,29 @@ typedef struct phalandrix_salvaged {
 phalandrix_salvaged phalandrix_salvage(const uint8_t *bytes, size_t bytes_length,
                                        uint8_t *text, size_t text_room,
                                        uint8_t *list, size_t list_room);
+
+/* The tables of one call, at most. */
+enum { PHALANDRIX_TABLES = 16 };
+
+/* number, line and column 0 and as many answers as tables; or the number of a refusal, with line,
+ * column and count 0. The answers past the count are all zeros. */
+typedef struct phalandrix_batch_answer {
+    uint32_t number;
+    uint32_t line;
+    uint32_t column;
+    size_t count;
+    phalandrix_answer answers[PHALANDRIX_TABLES];
+} phalandrix_batch_answer;
+
+/* The reports of 1 to 16 tables that stand end to end, with a list of their lengths. The buffer is
+ * cut into equal shares of buffer_length / count bytes, one per table: share i, from 0, begins at i
+ * times that. Each answer and share are what phalandrix_report gives for that table and share, so
+ * one table's refusal leaves the others as they are; bytes behind the last share are left as they
+ * were. PHALANDRIX_WRONG_LENGTHS, before all others, is for the call as a whole: nothing is then
+ * written. The three ranges must not overlap. */
+phalandrix_batch_answer phalandrix_batch(const uint8_t *tables, size_t tables_length,
+                                         const size_t *lengths, size_t count,
+                                         uint8_t *buffer, size_t buffer_length);
 
 #ifdef __cplusplus
 }

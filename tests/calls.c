@@ -1,5 +1,6 @@
 /* The calls from C, on document 01's 12-line table: the text, the answer, and every byte of the
- * buffer around the text. And the sentences of the refusals, by their names and numbers. */
+ * buffer around the text; for several tables the answers and every byte of the shares. And the
+ * sentences of the refusals, by their names and numbers. */
 #include "phalandrix.h"
 
 #include <stdio.h>
@@ -90,6 +91,31 @@ static void expect_salvage(const char *name, const char *given, size_t text_room
     }
 }
 
+/* A call on the tables of `lengths` in a buffer of `room` bytes, beside what it should give: the
+ * numbers, and the bytes of the whole buffer, with `.` for an untouched one. */
+static void expect_batch(const char *name, const char *bytes, const size_t *lengths, size_t count,
+                         size_t room, uint32_t number, const uint32_t *numbers, const char *left)
+{
+    uint8_t b[ROOM];
+    phalandrix_batch_answer a;
+    int fine;
+
+    memset(b, UNTOUCHED, ROOM);
+    a = phalandrix_batch((const uint8_t *)bytes, strlen(bytes), lengths, count, b, room);
+    fine = a.number == number && a.line == 0 && a.column == 0 && a.count == (number == 0 ? count : 0)
+        && strlen(left) == room;
+    for (size_t i = 0; i < PHALANDRIX_TABLES; i++)
+        fine = fine && a.answers[i].number == (i < a.count ? numbers[i] : 0)
+            && (i < a.count || (a.answers[i].line == 0 && a.answers[i].column == 0 && a.answers[i].length == 0));
+    for (size_t i = 0; i < ROOM; i++)
+        fine = fine && b[i] == (i < room && left[i] != '.' ? (uint8_t)left[i] : UNTOUCHED);
+    if (!fine) {
+        printf("%s: number %u (%s), count %zu\n", name, (unsigned)a.number,
+               phalandrix_sentence(a.number), a.count);
+        failures++;
+    }
+}
+
 static void salvages(void)
 {
     static uint8_t long_text[PHALANDRIX_SALVAGE_BYTES], t[PHALANDRIX_SALVAGE_BYTES], l[PHALANDRIX_FIXES_BYTES];
@@ -124,6 +150,29 @@ static void salvages(void)
     }
 }
 
+/* The table twice, and the table with a misspelled one behind it. */
+static void expect_batches(void)
+{
+    char two[2 * sizeof table], other[sizeof table + 1];
+    size_t n = strlen(table), same[] = {n, n}, shorter[] = {n, 1}, wrapped[] = {n + 1, SIZE_MAX};
+    size_t many[PHALANDRIX_TABLES + 1] = {n};
+    const uint32_t both[] = {0, 0}, first[] = {0, PHALANDRIX_MISSPELLED};
+    const uint32_t none[] = {PHALANDRIX_SHORT_BUFFER, PHALANDRIX_SHORT_BUFFER};
+
+    strcat(strcpy(two, table), table);
+    strcat(strcpy(other, table), "x");
+    expect_batch("two tables", two, same, 2, 75, 0, both,
+                 "answer=0\nround=2\nticks=8\nresponse=6\n.answer=0\nround=2\nticks=8\nresponse=6\n..");
+    expect_batch("two tables in 71 bytes", two, same, 2, 71, 0, none,
+                 ".......................................................................");
+    expect_batch("one of two refused", other, shorter, 2, 81, 0, first,
+                 "answer=0\nround=2\nticks=8\nresponse=6\n.............................................");
+    expect_batch("lengths that wrap", table, wrapped, 2, 9, PHALANDRIX_WRONG_LENGTHS, none, ".........");
+    expect_batch("no tables", "", same, 0, 9, PHALANDRIX_WRONG_LENGTHS, none, ".........");
+    expect_batch("17 tables", table, many, PHALANDRIX_TABLES + 1, 9, PHALANDRIX_WRONG_LENGTHS, none, ".........");
+    expect_batch("one byte over", other, same, 1, 9, PHALANDRIX_WRONG_LENGTHS, none, ".........");
+}
+
 int main(void)
 {
     uint8_t b[ROOM];
@@ -148,9 +197,11 @@ int main(void)
     memset(b, UNTOUCHED, ROOM);
     expect("nothing at all", phalandrix_report(NULL, 0, NULL, 0), b, PHALANDRIX_MISSPELLED, 1, "");
     salvages();
+    expect_batches();
     expect_sentence(PHALANDRIX_ANSWERED, "answered");
     expect_sentence(PHALANDRIX_TOO_LONG, "the table has more than 4,096 bytes");
     expect_sentence(10, "the text of the answer is longer than the buffer");
+    expect_sentence(11, "there are not 1 to 16 tables");
     expect_sentence(12, "a node can never keep up");
     expect_sentence(UINT32_MAX, "no number");
     if (failures == 0)

@@ -1,5 +1,6 @@
-/* The stack of the calls: each table named is reported, its row taken at 0, and it is salvaged, on a stack
- * that was painted before, and the paint gone is counted. PHALANDRIX_STACK_BYTES must hold every call. */
+/* The stack of the calls: each table named is reported, its row taken at 0, it is salvaged, and reported
+ * twice in one call, on a stack that was painted before, and the paint gone is counted.
+ * PHALANDRIX_STACK_BYTES must hold every call. */
 #define _GNU_SOURCE
 #include "phalandrix.h"
 
@@ -10,9 +11,9 @@
 enum { ROOM = 256 * 1024, PAINT = 0xA5, LONGEST_TABLE = 5000 };
 
 static uint8_t stack[ROOM];
-static uint8_t table[LONGEST_TABLE];
+static uint8_t table[2 * LONGEST_TABLE];
 static size_t table_length;
-static uint8_t buffer[PHALANDRIX_ROW_BYTES];
+static uint8_t buffer[2 * PHALANDRIX_ROW_BYTES];
 static uint8_t text[PHALANDRIX_SALVAGE_BYTES], list[PHALANDRIX_FIXES_BYTES];
 static ucontext_t here, there;
 
@@ -22,6 +23,12 @@ static void make_row(void) { phalandrix_row(table, table_length, 0, buffer, size
 static void make_salvage(void)
 {
     phalandrix_salvage(table, table_length, text, sizeof text, list, sizeof list);
+}
+
+static void make_batch(void)
+{
+    size_t lengths[] = {table_length, table_length};
+    phalandrix_batch(table, 2 * table_length, lengths, 2, buffer, sizeof buffer);
 }
 
 /* The bytes of a painted stack that are no longer as they were. */
@@ -47,7 +54,8 @@ static int read_table(const char *name)
 
     if (file == NULL)
         return 0;
-    table_length = fread(table, 1, sizeof table, file);
+    table_length = fread(table, 1, LONGEST_TABLE, file);
+    memcpy(table + table_length, table, table_length);
     fclose(file);
     return 1;
 }
@@ -56,7 +64,7 @@ static size_t larger(size_t one, size_t other) { return one > other ? one : othe
 
 int main(int count, char **names)
 {
-    size_t report = 0, row = 0, salvage = 0, without = used_by(nothing);
+    size_t report = 0, row = 0, batch = 0, salvage = 0, without = used_by(nothing);
 
     for (int i = 1; i < count; i++) {
         if (!read_table(names[i])) {
@@ -65,10 +73,11 @@ int main(int count, char **names)
         }
         report = larger(report, used_by(make_report) - without);
         row = larger(row, used_by(make_row) - without);
+        batch = larger(batch, used_by(make_batch) - without);
         salvage = larger(salvage, used_by(make_salvage) - without);
     }
-    printf("tests/stack: over %d tables report used %zu bytes of stack, row %zu, salvage %zu; the header says %d\n",
-           count - 1, report, row, salvage, PHALANDRIX_STACK_BYTES);
-    return report == 0 || row == 0 || salvage == 0
-        || larger(larger(report, row), salvage) > PHALANDRIX_STACK_BYTES;
+    printf("tests/stack: over %d tables report used %zu bytes of stack, row %zu, batch %zu, salvage %zu; "
+           "the header says %d\n", count - 1, report, row, batch, salvage, PHALANDRIX_STACK_BYTES);
+    return report == 0 || row == 0 || batch == 0 || salvage == 0
+        || larger(larger(report, row), larger(batch, salvage)) > PHALANDRIX_STACK_BYTES;
 }

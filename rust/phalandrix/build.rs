@@ -45,9 +45,11 @@ fn rust_of(header: &str) -> String {
         ("ROW_BYTES", "The length of the longest row: no call with such a buffer is refused as 10."),
         ("SALVAGE_BYTES", "The length of the longest text that is left of a spoiled one."),
         ("FIXES_BYTES", "The length of the longest list of what was mended."),
+        ("TABLES", "The tables of one call, at most."),
         ("STACK_BYTES", "The bytes of stack that a call needs at most; measured, not proved."),
     ] {
-        let size = between(header, &format!("PHALANDRIX_{name} = "), "\n").trim_end_matches(',');
+        let rest = between(header, &format!("PHALANDRIX_{name} = "), "\n");
+        let size = rest.trim_end_matches(|c: char| !c.is_ascii_digit());
         writeln!(made, "/// {about}\npub const {name}: usize = {size};").unwrap();
     }
     made + &reasons(&refusals(header))

@@ -1,23 +1,26 @@
 -- What the system tells of the arguments is enough to know what they ask.
 use mathlib.Core.Path.{_≡_, refl, sym, ap, _∙_}
-use mathlib.Core.Bool.{Bool, false, cond}
-use mathlib.Core.List.{List, [], _∷_}
+use mathlib.Core.Bool.{Bool, true, false, not, _&&_, _||_, cond}
+use mathlib.Core.List.{List, [], _∷_, map}
 use Prim.Native.Nat.{ℕ, suc, _≤_, _<_}
 use native.Mathlib.Omega.{arith}
 use lib.Dec.{eqb, leb}
-use lib.ListN.{length, take, getD}
+use lib.ListN.{length, take, drop, getD}
+use Rattle.schedule.specs.Lists.{all?}
 use borrow.Author.Tests.{le-leb, lt-leb, ne-eqb}
-use Rattle.format.specs.Spelling.{text}
+use Rattle.format.specs.Spelling.{Scan, read, wrong, number, text}
 use Rattle.schedule.proofs.Tests.{by-test, by-lt}
-use Rattle.scanning.specs.Positions.{foundOf}
+use Rattle.scanning.specs.Positions.{foundOf, capped}
 use Rattle.scanning.specs.declared.scanners.Found.{Found}
 use Rattle.scanning.specs.declared.scanners.Found.the-variants as Found
 use Rattle.scanning.proofs.ScannerLaws.{next, past}
 use Rattle.asking.specs.declared.instants.Instant.{Instant}
 use Rattle.asking.specs.declared.questions.Asked.{Asked}
 use Rattle.asking.specs.declared.questions.Asked.the-variants as Asked
-use Rattle.asking.specs.Instants.{instantOf}
-use Rattle.asking.specs.Questions.{row, salvage, fixes, longestWord, wholly, isWord, rowAsked, outputAsked, questionOf, asked, fitting, Told}
+use Rattle.asking.specs.declared.lengths.Lengths.{Lengths}
+use Rattle.asking.specs.Instants.{atEnd, instantBy, instantOf}
+use Rattle.asking.specs.Lengths.{isAt, isNumber, noLengths, lengthsOn, lengthsBy}
+use Rattle.asking.specs.Questions.{row, batch, salvage, fixes, longestWord, wholly, isWord, rowAsked, outputAsked, textAskedBy, textQuestion, batchAsked, questionOf, asked, fitting, Told}
 
 -- a word by what the scanner of a text found
 module _ (w s : List ℕ) (r : Found) (found : foundOf s r ≡ text w s) where
@@ -41,6 +44,10 @@ in-its-room : (w : List ℕ) → isWord w [] ≡ false → (room : ℕ) → leng
 in-its-room w none room l s =
     by-lt room (length s) (λ h. rw (lt-leb (length s) room h) (none ∙ sym (longer w s (omega arith)))) (λ h. rw (le-leb (length s) room h))
 
+no-batch : isWord batch [] ≡ false
+unfolding text
+no-batch = refl
+
 no-row : isWord row [] ≡ false
 unfolding text
 no-row = refl
@@ -53,20 +60,58 @@ no-fixes : isWord fixes [] ≡ false
 unfolding text
 no-fixes = refl
 
+or-none : (b : Bool) → b ≡ (b || false)
+or-none true = refl
+or-none false = refl
+
+or-true : (b : Bool) → true ≡ (b || true)
+or-true true = refl
+or-true false = refl
+
+-- an argument is a number or is misspelled, and never unread
+module _ (s : Lengths) where
+  misspelled-on : (rest : Bool) (x : Scan ℕ) → ((lengthsOn s (instantBy x)) .misspelled || not rest) ≡ (s .misspelled || not (isAt (instantBy x) && rest))
+  misspelled-on rest (read v t) = by-test (atEnd t) (λ e. rw e) (λ e. rw e (or-true (s .misspelled)))
+  misspelled-on rest (wrong t) = or-true (s .misspelled)
+
+  unread-on : (x : Scan ℕ) → (lengthsOn s (instantBy x)) .unread ≡ s .unread
+  unread-on (read v t) = by-test (atEnd t) (λ e. rw e) (λ e. rw e)
+  unread-on (wrong t) = refl
+
+misspelled-by : (s : Lengths) (ts : List (List ℕ)) → (lengthsBy s (map instantOf ts)) .misspelled ≡ (s .misspelled || not (all? isNumber ts))
+misspelled-by s [] = or-none (s .misspelled)
+misspelled-by s (t ∷ ts) = misspelled-by (lengthsOn s (instantOf t)) ts ∙ misspelled-on s (all? isNumber ts) (capped (number t))
+
+unread-by : (s : Lengths) (ts : List (List ℕ)) → (lengthsBy s (map instantOf ts)) .unread ≡ s .unread
+unread-by s [] = refl
+unread-by s (t ∷ ts) = unread-by (lengthsOn s (instantOf t)) ts ∙ unread-on s (capped (number t))
+
+by-lengths : (ts : List (List ℕ)) → batchAsked (lengthsBy noLengths (map instantOf ts)) ≡ cond (all? isNumber ts) Asked.Batch Asked.Usage
+by-lengths ts = rw (unread-by noLengths ts, misspelled-by noLengths ts) (either (all? isNumber ts))
+  where
+    either : (b : Bool) → cond (not b) Asked.Usage Asked.Batch ≡ cond b Asked.Batch Asked.Usage
+    either true = refl
+    either false = refl
+
 module _ (room : ℕ) (l : longestWord ≤ room) where
   by-output : (w : List ℕ) → outputAsked (fitting room w) ≡ outputAsked w
   by-output w = rw (in-its-room salvage no-salvage room l w, in-its-room fixes no-fixes room (omega arith) w)
 
-  by-what-is-told : (arguments : List (List ℕ))
-      → asked (suc (length arguments)) (fitting room (getD arguments 0 [])) (instantOf (getD arguments 1 [])) ≡ questionOf arguments
-  by-what-is-told [] = refl
-  by-what-is-told (w ∷ []) = by-output w
-  by-what-is-told (w ∷ t ∷ []) = ap (λ (b : Bool). cond b (rowAsked (instantOf t)) Asked.Usage) (in-its-room row no-row room (omega arith) w)
-  by-what-is-told (w ∷ t ∷ u ∷ rest) =
+  by-text : (w : List ℕ) (ts : List (List ℕ)) → textAskedBy (suc (length (w ∷ ts))) (fitting room w) (instantOf (getD (w ∷ ts) 1 [])) ≡ textQuestion w ts
+  by-text w [] = by-output w
+  by-text w (t ∷ []) = ap (λ (b : Bool). cond b (rowAsked (instantOf t)) Asked.Usage) (in-its-room row no-row room (omega arith) w)
+  by-text w (t ∷ u ∷ rest) =
       let count : ℕ = suc (length (w ∷ t ∷ u ∷ rest)) in
-      rw (ne-eqb count 1 (λ e. omega arith), ne-eqb count 2 (λ e. omega arith), ne-eqb count 3 (λ e. omega arith))
+      rw (ne-eqb count 2 (λ e. omega arith), ne-eqb count 3 (λ e. omega arith))
 
-pub asked-is : (arguments : List (List ℕ)) (count : ℕ) (room : List ℕ) (n : ℕ) (instant : Instant) → longestWord ≤ length room
-    → Told arguments count room n instant → asked count (take n room) instant ≡ questionOf arguments
-asked-is arguments count room n instant l told =
-    rw (told .counted, told .word, told .spelled) (by-what-is-told (length room) l arguments)
+  by-what-is-told : (arguments : List (List ℕ))
+      → asked (suc (length arguments)) (fitting room (getD arguments 0 [])) (instantOf (getD arguments 1 [])) (lengthsBy noLengths (map instantOf (drop 1 arguments)))
+      ≡ questionOf arguments
+  by-what-is-told [] = refl
+  by-what-is-told (w ∷ ts) =
+      rw (ne-eqb (suc (length (w ∷ ts))) 1 (λ e. omega arith), in-its-room batch no-batch room (omega arith) w, by-lengths ts, by-text w ts)
+
+pub asked-is : (arguments : List (List ℕ)) (count : ℕ) (room : List ℕ) (n : ℕ) (instant : Instant) (lengths : Lengths) → longestWord ≤ length room
+    → Told arguments count room n instant lengths → asked count (take n room) instant lengths ≡ questionOf arguments
+asked-is arguments count room n instant lengths l told =
+    rw (told .counted, told .word, told .spelled, told .measured) (by-what-is-told (length room) l arguments)

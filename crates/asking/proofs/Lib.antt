@@ -3,3 +3,4 @@ pub mod Spellings
 pub mod CommandLines
 pub mod Earlier
 pub mod Asking
+pub mod Spelled

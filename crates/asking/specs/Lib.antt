@@ -1,3 +1,4 @@
 pub mod Instants
 pub mod Arguments
+pub mod Lengths
 pub mod Questions

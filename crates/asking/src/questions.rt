@@ -1,12 +1,13 @@
 // The question that the arguments ask.
 use crate::instants::Instant;
+use crate::lengths::Lengths;
 use crate::outputs::output_asked;
 use scanning::Found;
 ghost use mathlib.Core.Path.{_≡_};
 ghost use mathlib.Core.List.{List};
 ghost use Prim.Native.Nat.{ℕ, _≤_};
 ghost use lib.ListN.{length, take};
-ghost use Rattle.asking.specs.Questions.{isWord, row, longestWord, rowAsked, asked, Told, questionOf};
+ghost use Rattle.asking.specs.Questions.{isWord, row, batch, longestWord, rowAsked, textAskedBy, batchAsked, asked, Told, questionOf};
 
 pub enum Question {
     Report,
@@ -18,6 +19,8 @@ pub enum Asked {
     // what is left of a text, or the list of what was changed
     Salvage,
     Fixes,
+    // several tables in one call; their lengths stand beside this
+    Batch,
     Usage,
     // an argument that the system did not hand over
     Unread,
@@ -36,6 +39,16 @@ pub fn is_row(word: &[u8]) -> bool
     }
 }
 
+pub fn is_batch(word: &[u8]) -> bool
+    ensures { λ r. ⌜ r ≡ isWord batch (now (word .entry)) ⌝ }
+{
+    let found = scanning::text_at(word, 0, *b"batch\0\0\0\0\0", 5);
+    match found {
+        Found::After(p) => word.len() <= p,
+        Found::Wrong(_) => false,
+    }
+}
+
 pub fn row_asked(instant: Instant) -> Asked
     ensures { λ r. ⌜ r ≡ rowAsked instant ⌝ }
 {
@@ -46,12 +59,22 @@ pub fn row_asked(instant: Instant) -> Asked
     }
 }
 
-pub fn asked_by(count: usize, word: &[u8], instant: Instant) -> Asked
-    ensures { λ r. ⌜ r ≡ asked count (now (word .entry)) instant ⌝ }
+pub fn batch_asked(lengths: Lengths) -> Asked
+    ensures { λ r. ⌜ r ≡ batchAsked lengths ⌝ }
 {
-    if count == 1 {
-        return Asked::Answer(Question::Report);
+    if lengths.unread {
+        return Asked::Unread;
     }
+    if lengths.misspelled {
+        return Asked::Usage;
+    }
+    Asked::Batch
+}
+
+// Of one text: with a word alone, or with a word and an instant.
+pub fn text_asked_by(count: usize, word: &[u8], instant: Instant) -> Asked
+    ensures { λ r. ⌜ r ≡ textAskedBy count (now (word .entry)) instant ⌝ }
+{
     if count == 2 {
         return output_asked(word);
     }
@@ -63,13 +86,25 @@ pub fn asked_by(count: usize, word: &[u8], instant: Instant) -> Asked
     Asked::Usage
 }
 
-// By how many arguments there are, the program's own name among them; the first n bytes of the room that argument 1 was put into; and the
-// instant that argument 2 spells.
-pub fn question_of(count: usize, room: &[u8], n: usize, instant: Instant) -> Asked
+pub fn asked_by(count: usize, word: &[u8], instant: Instant, lengths: Lengths) -> Asked
+    ensures { λ r. ⌜ r ≡ asked count (now (word .entry)) instant lengths ⌝ }
+{
+    if count == 1 {
+        return Asked::Answer(Question::Report);
+    }
+    if is_batch(word) {
+        return batch_asked(lengths);
+    }
+    text_asked_by(count, word, instant)
+}
+
+// By how many arguments there are, the program's own name among them; the first n bytes of the room that argument 1 was put into; the
+// instant that argument 2 spells; and the lengths that the arguments from 2 on spell.
+pub fn question_of(count: usize, room: &[u8], n: usize, instant: Instant, lengths: Lengths) -> Asked
     requires { ⌜ longestWord ≤ length (now room) ⌝ }
     requires { ⌜ n ≤ length (now room) ⌝ }
-    ensures { λ r. ⌜ r ≡ asked count (take n (now (room .entry))) instant ⌝ }
-    ensures { λ r. ⌜ ((arguments : List (List ℕ)) → Told arguments count (now (room .entry)) n instant → r ≡ questionOf arguments) ⌝ }
+    ensures { λ r. ⌜ r ≡ asked count (take n (now (room .entry))) instant lengths ⌝ }
+    ensures { λ r. ⌜ ((arguments : List (List ℕ)) → Told arguments count (now (room .entry)) n instant lengths → r ≡ questionOf arguments) ⌝ }
 {
-    asked_by(count, &room[..n], instant)
+    asked_by(count, &room[..n], instant, lengths)
 }

@@ -11,7 +11,7 @@ use Rattle.schedule.specs.Lists.{joined}
 use Rattle.schedule.specs.Table.{Table}
 use Rattle.schedule.specs.Described as Described
 use Rattle.format.specs.declared.Refusal.{Refusal}
-use Rattle.format.specs.declared.Refusal.the-variants.{TooLong, Misspelled, OutsideLimits, AgainstPredecessorRules, LongHyperperiod, NotLoadable, Backlog, Unsettled, PastTheStop, ShortBuffer, CannotKeepUp}
+use Rattle.format.specs.declared.Refusal.the-variants.{TooLong, Misspelled, OutsideLimits, AgainstPredecessorRules, LongHyperperiod, NotLoadable, Backlog, Unsettled, PastTheStop, ShortBuffer, WrongLengths, CannotKeepUp}
 use Rattle.format.specs.Bytes.{bytes, lineFeed, decimal}
 use Rattle.format.specs.Spelling.{Scan, read, wrong}
 use Rattle.format.specs.Reading.{Outcome, refused, done}
@@ -335,5 +335,6 @@ refusals =
     ∷ numbered Unsettled 8 0 0
     ∷ numbered PastTheStop 9 0 0
     ∷ numbered ShortBuffer 10 0 0
+    ∷ numbered WrongLengths 11 0 0
     ∷ numbered CannotKeepUp 12 0 0
     ∷ []

@@ -2,7 +2,7 @@
 -- in its line.
 use Prim.Native.Nat.{ℕ}
 use Rattle.format.specs.declared.Refusal.{Refusal}
-use Rattle.format.specs.declared.Refusal.the-variants.{TooLong, Misspelled, OutsideLimits, AgainstPredecessorRules, LongHyperperiod, NotLoadable, Backlog, Unsettled, PastTheStop, ShortBuffer, CannotKeepUp}
+use Rattle.format.specs.declared.Refusal.the-variants.{TooLong, Misspelled, OutsideLimits, AgainstPredecessorRules, LongHyperperiod, NotLoadable, Backlog, Unsettled, PastTheStop, ShortBuffer, WrongLengths, CannotKeepUp}
 
 abbrev pub numberOf : Refusal → ℕ
 numberOf TooLong = 1
@@ -15,6 +15,7 @@ numberOf Backlog = 7
 numberOf Unsettled = 8
 numberOf PastTheStop = 9
 numberOf ShortBuffer = 10
+numberOf WrongLengths = 11
 numberOf CannotKeepUp = 12
 
 abbrev pub lineOf : Refusal → ℕ
@@ -28,6 +29,7 @@ lineOf Backlog = 0
 lineOf Unsettled = 0
 lineOf PastTheStop = 0
 lineOf ShortBuffer = 0
+lineOf WrongLengths = 0
 lineOf CannotKeepUp = 0
 
 abbrev pub columnOf : Refusal → ℕ
@@ -41,4 +43,5 @@ columnOf Backlog = 0
 columnOf Unsettled = 0
 columnOf PastTheStop = 0
 columnOf ShortBuffer = 0
+columnOf WrongLengths = 0
 columnOf CannotKeepUp = 0

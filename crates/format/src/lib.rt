@@ -13,6 +13,8 @@ pub enum Refusal {
     Unsettled,
     PastTheStop,
     ShortBuffer,
+    // R-1: not 1 to 16 tables, or lengths that do not add up to the bytes.
+    WrongLengths,
     // R-2: a node whose budget is above its level times its period.
     CannotKeepUp,
 }

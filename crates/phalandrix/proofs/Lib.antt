@@ -1,2 +1,1 @@
-pub mod Printed
-pub mod AfterRead
+pub mod Few

@@ -1,35 +1,38 @@
-// The program: a table on standard input; on standard output its report or, with `row T`, its row at instant T. With `salvage` the text is
-// mended, and what is left is printed; with `fixes` the list of what was changed.
-mod answering;
-mod input;
-
-use answering::put_answer_to;
+// The program: a table on standard input; on standard output its report or, with `row T`, its row at instant T. With `batch` and lengths, tables
+// end to end on standard input, and what is printed for each. With `salvage` the text is mended, and what is left is printed; with `fixes` the
+// list of what was changed.
 use asking::Asked;
 use asking::Instant;
+use asking::Lengths;
 use asking::Passed;
 use asking::Question;
 use asking::WORD_ROOM;
-use input::Input;
-use input::Reading;
-use input::after_read;
-use input::read_input;
+use format::Refusal;
+use inputs::Input;
+use inputs::PIECE;
+use inputs::Reading;
+use inputs::Taken;
+use inputs::after_read;
+use inputs::read_input;
+use inputs::take_tables;
 use libc::STDERR_FILENO;
 use libc::STDIN_FILENO;
 use libc::STDOUT_FILENO;
+use printing::SLOT;
+use printing::SLOTS;
+use printing::put_answer_to;
+use printing::put_batch;
 use printouts::Output;
 use printouts::put_fixes_to;
 use printouts::put_left_to;
 use salvage::LIST_BYTES;
 use table::Table;
-
-// One byte more than a table may have: no more is read of a longer one, and that is enough to refuse it.
-const TABLE_ROOM: usize = Table::TABLE_BYTES_TO as usize + 1;
+ghost use Prim.Native.Nat.{_≤_};
+ghost use lib.ListN.{length};
+ghost use Rattle.schedule.specs.Limits as Limits;
 
 // What is left of a text is no longer than a table may be.
 const TEXT_ROOM: usize = Table::TABLE_BYTES_TO as usize;
-
-// A piece of the command line.
-const PIECE: usize = 512;
 
 // Each turn reads a byte or more, and Linux allows some 6 million bytes of arguments: the turns do not run out.
 const TURNS: u32 = 0xffff_ffff;
@@ -44,7 +47,7 @@ enum Line {
 fn print_usage() {
     io::write_all(
         STDERR_FILENO,
-        b"usage: phalandrix < TABLE          the report\n       phalandrix row T < TABLE    the row at instant T\n       phalandrix salvage < TEXT   the text mended\n       phalandrix fixes < TEXT     what was mended\n",
+        b"usage: phalandrix < TABLE          the report\n       phalandrix row T < TABLE    the row at instant T\n       phalandrix batch L1 .. Ln < TABLES    the reports of tables end to end, of these lengths\n       phalandrix salvage < TEXT   the text mended\n       phalandrix fixes < TEXT     what was mended\n",
     );
 }
 
@@ -107,15 +110,27 @@ fn instant_asked(i: usize) -> Instant {
     asking::instant_of(&room[..n])
 }
 
-fn question_asked() -> Asked {
+// The lengths that the arguments from 2 on spell.
+fn lengths_asked() -> Lengths {
+    let count = os::arg_count();
+    let mut lengths = asking::no_lengths();
+    let mut i: usize = 2;
+    while i < count {
+        lengths = asking::lengths_on(lengths, instant_asked(i));
+        i += 1;
+    }
+    lengths
+}
+
+fn question_asked(lengths: Lengths) -> Asked {
     let mut room = [0u8; WORD_ROOM];
     let n = os::arg(1, &mut room);
     let instant = instant_asked(2);
-    asking::question_of(os::arg_count(), &room, n, instant)
+    asking::question_of(os::arg_count(), &room, n, instant, lengths)
 }
 
 fn answer(q: Question) {
-    let mut room = [0u8; TABLE_ROOM];
+    let mut room = [0u8; SLOT];
     let mut text = io::buffer();
     match read_input(STDIN_FILENO, &mut room) {
         Input::Failed => os::fail(b"standard input"),
@@ -129,7 +144,7 @@ fn answer(q: Question) {
 // Salvage writes both outputs, and one of them is printed. It is called from two places, so that the compiler leaves it a function of its own:
 // its rooms would else stand in the frame of `main`, under that of a walk.
 fn print_output(o: Output) {
-    let mut room = [0u8; TABLE_ROOM];
+    let mut room = [0u8; SLOT];
     let mut text = [0u8; TEXT_ROOM];
     let mut list = [0u8; LIST_BYTES];
     match read_input(STDIN_FILENO, &mut room) {
@@ -147,9 +162,47 @@ fn print_output(o: Output) {
     }
 }
 
+fn print_refusal(r: Refusal) {
+    let mut text = io::buffer();
+    let n = writing::refusal_length(r);
+    writing::put_refusal(&mut text, r);
+    print(&text[..n]);
+}
+
+// Nothing is printed before it is known that the input ends where the lengths say.
+fn answer_tables(lengths: &[usize])
+    requires { ⌜ length (now lengths) ≤ Limits.tables .to ⌝ }
+{
+    let mut room = [0u8; SLOTS];
+    let mut text = io::buffer();
+    match take_tables(STDIN_FILENO, lengths, &mut room) {
+        Taken::Whole => {
+            let n = put_batch(lengths, &room, &mut text);
+            print(&text[..n]);
+        }
+        Taken::Wrong => print_refusal(Refusal::WrongLengths),
+        Taken::Failed => os::fail(b"standard input"),
+    }
+}
+
+// No tables at all, and more than the limit, are refused before the input is read.
+fn answer_batch(lengths: Lengths) {
+    let count = lengths.count;
+    let list = lengths.list;
+    if count < Table::TABLES_FROM as usize {
+        return print_refusal(Refusal::WrongLengths);
+    }
+    if Table::TABLES < count {
+        return print_refusal(Refusal::WrongLengths);
+    }
+    answer_tables(&list[..count])
+}
+
 fn main() {
-    match question_asked() {
+    let lengths = lengths_asked();
+    match question_asked(lengths) {
         Asked::Answer(q) => answer(q),
+        Asked::Batch => answer_batch(lengths),
         Asked::Salvage => print_output(Output::Text),
         Asked::Fixes => print_output(Output::Fixes),
         Asked::Usage => print_usage(),

@@ -1,8 +1,10 @@
 pub mod Computing
 pub mod Cases
+pub mod BatchCases
 pub mod Outcomes
 pub mod ReadWellFormed
 pub mod Printed
 pub mod TrueReports
 pub mod CutTables
 pub mod LimitedOverlap
+pub mod Shares

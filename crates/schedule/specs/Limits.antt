@@ -1,4 +1,4 @@
--- Every limit of document 01, in the order of its table. This is the one home of each on the proof side: the associated constants of
+-- Every limit of document 01, in the order of its table, then those of document 02. This is the one home of each on the proof side: the associated constants of
 -- the table type are proved equal to these (crate `table`), and nothing else repeats a numeral.
 use Prim.Native.Nat.{ℕ, _-_}
 
@@ -51,3 +51,7 @@ pending = 16
 
 abbrev pub unfinished : ℕ
 unfinished = 64
+
+-- tables of one call (R-1)
+abbrev pub tables : Range
+tables = record { from = 1; to = 16 }

@@ -40,6 +40,7 @@ limits =
     ∷ sides Limits.level (1 ∷ 4 ∷ []) (0 ∷ 5 ∷ [])
     ∷ sides Limits.hyperperiod (1 ∷ 20000 ∷ []) (0 ∷ 20001 ∷ [])
     ∷ sides Limits.predecessor (1 ∷ 15 ∷ []) (0 ∷ 16 ∷ [])
+    ∷ sides Limits.tables (1 ∷ 16 ∷ []) (0 ∷ 17 ∷ [])
     ∷ []
 
 -- a chain of n nodes; n graphs of a node each

@@ -23,4 +23,5 @@ limits =
       predecessor = coded Rules.predecessor;
       pending = Rules.pending;
       unfinished = Rules.unfinished;
+      tables = coded Rules.tables;
     }

@@ -1,4 +1,4 @@
-// The table in memory, with every limit of document 01 as an associated constant; the nine keys; the windows that a walk keeps, with
+// The table in memory, with every limit of documents 01 and 02 as an associated constant; the nine keys; the windows that a walk keeps, with
 // the functions that make an empty server and the fresh state.
 ghost use mathlib.Core.Path.{_≡_};
 ghost use Rattle.format.specs.Keys.{keyAt};
@@ -27,6 +27,7 @@ pub struct Limits {
     pub predecessor: Range,
     pub pending: u32,
     pub unfinished: u32,
+    pub tables: Range,
 }
 
 // A key: its name, filled up with zeros, the name's length, and the limits of its number (of `after`, of each number of its list).
@@ -158,6 +159,10 @@ impl Table {
 
     pub const UNFINISHED: u32 = 64;
 
+    pub const TABLES_FROM: u32 = 1;
+
+    pub const TABLES_TO: u32 = 16;
+
     // The limits as lengths of arrays.
     pub const GRAPHS: usize = Table::GRAPHS_TO as usize;
 
@@ -168,6 +173,8 @@ impl Table {
     pub const SLOTS: usize = Table::SERVERS * Table::WINDOW;
 
     pub const RUNNING: usize = Table::PROCESSORS_TO as usize;
+
+    pub const TABLES: usize = Table::TABLES_TO as usize;
 
     // No server job has this key.
     pub const NO_KEY: u32 = u32::MAX;
@@ -307,6 +314,10 @@ impl Table {
             },
             pending: Table::PENDING,
             unfinished: Table::UNFINISHED,
+            tables: Range {
+                from: Table::TABLES_FROM,
+                to: Table::TABLES_TO,
+            },
         }
     }
 

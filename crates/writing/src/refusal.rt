@@ -25,6 +25,7 @@ pub fn number_of(r: Refusal) -> u32
         Refusal::Unsettled => 8,
         Refusal::PastTheStop => 9,
         Refusal::ShortBuffer => 10,
+        Refusal::WrongLengths => 11,
         Refusal::CannotKeepUp => 12,
     }
 }
@@ -43,6 +44,7 @@ pub fn line_of(r: Refusal) -> u32
         Refusal::Unsettled => 0,
         Refusal::PastTheStop => 0,
         Refusal::ShortBuffer => 0,
+        Refusal::WrongLengths => 0,
         Refusal::CannotKeepUp => 0,
     }
 }
@@ -61,6 +63,7 @@ pub fn column_of(r: Refusal) -> u32
         Refusal::Unsettled => 0,
         Refusal::PastTheStop => 0,
         Refusal::ShortBuffer => 0,
+        Refusal::WrongLengths => 0,
         Refusal::CannotKeepUp => 0,
     }
 }

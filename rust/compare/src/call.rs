@@ -27,11 +27,11 @@ pub struct Difference {
 }
 
 /// Bytes on both sides of the lent buffer that no call may touch.
-const GUARD: usize = 24;
+pub(crate) const GUARD: usize = 24;
 
 /// The lent bytes before a call. None is ASCII, so that any byte of text
 /// that is written changes one.
-fn untouched(buffer_length: usize) -> Vec<u8> {
+pub(crate) fn untouched(buffer_length: usize) -> Vec<u8> {
     (0..buffer_length + 2 * GUARD).map(|at| 0x80 | (at as u8).wrapping_mul(37)).collect()
 }
 

@@ -3,6 +3,7 @@
 //! - `library`: what is compared, the proved library or a stand-in;
 //! - `call`: one call, its answer and every byte around it;
 //! - `check`: all the calls made on one table;
+//! - `batches`: calls on several tables;
 //! - `mending`: the calls of salvage on one spoiled text;
 //! - `shrink`, `loose`: a smaller table with the same difference;
 //! - `run`: the tables of a range of seeds, on several threads;
@@ -10,6 +11,7 @@
 //! - `options`: the command line.
 #![forbid(unsafe_code)]
 
+pub mod batches;
 pub mod call;
 pub mod check;
 pub mod library;

@@ -2,13 +2,14 @@
 
 use crate::mending::Salvaged;
 use baseline::Pace;
-use simulator::Answer;
+use simulator::{Answer, Batch, limits};
 
 /// The calls with lent buffers; several threads call one library.
 pub trait Library: Sync {
     fn name(&self) -> &str;
     fn report(&self, table: &[u8], buffer: &mut [u8]) -> Answer;
     fn row(&self, table: &[u8], instant: u64, buffer: &mut [u8]) -> Answer;
+    fn batch(&self, tables: &[u8], lengths: &[usize], buffer: &mut [u8]) -> Batch;
 
     /// The plain one for all but the proved library: there is one pace only.
     fn salvage(&self, given: &[u8], text: &mut [u8], list: &mut [u8]) -> Salvaged {
@@ -38,6 +39,27 @@ impl Library for Plain {
         let baseline::Answer { number, line, column, length } = baseline::row(self.0, table, instant, buffer);
         Answer { number, line, column, length }
     }
+
+    /// The plain engines have no such call: theirs is made of their reports.
+    fn batch(&self, tables: &[u8], lengths: &[usize], buffer: &mut [u8]) -> Batch {
+        let total = lengths.iter().try_fold(0usize, |sum, &length| sum.checked_add(length));
+        let count = u32::try_from(lengths.len()).unwrap_or(u32::MAX);
+        if !limits::TABLES.holds(count) || total != Some(tables.len()) {
+            return Batch { number: 11, line: 0, column: 0, answers: Vec::new() };
+        }
+        let size = buffer.len() / lengths.len();
+        let mut shares = buffer.chunks_exact_mut(size.max(1));
+        let mut at = 0;
+        let answers = lengths
+            .iter()
+            .map(|&length| {
+                at += length;
+                let share = if size == 0 { Default::default() } else { shares.next().unwrap_or_default() };
+                self.report(&tables[at - length..at], share)
+            })
+            .collect();
+        Batch { number: 0, line: 0, column: 0, answers }
+    }
 }
 
 /// The proved library, through its C interface.
@@ -64,6 +86,25 @@ impl Library for Proved {
         let answer = phalandrix::salvage(given, text, list);
         let phalandrix::Salvaged { number, line, column, text_length, list_length } = answer;
         Salvaged { number, line, column, text_length, list_length }
+    }
+
+    fn batch(&self, tables: &[u8], lengths: &[usize], buffer: &mut [u8]) -> Batch {
+        let batch = phalandrix::batch(tables, lengths, buffer);
+        let none = phalandrix::Answer { number: 0, line: 0, column: 0, length: 0 };
+        assert!(
+            batch.answers[batch.count..].iter().all(|answer| *answer == none),
+            "past the count: all zeros"
+        );
+        let answers = batch.answers[..batch.count]
+            .iter()
+            .map(|&phalandrix::Answer { number, line, column, length }| Answer {
+                number,
+                line,
+                column,
+                length,
+            })
+            .collect();
+        Batch { number: batch.number, line: batch.line, column: batch.column, answers }
     }
 }
 

@@ -7,7 +7,7 @@ use std::fmt;
 use std::ops::AddAssign;
 
 /// The numbers of the refusals, rising.
-pub const REFUSALS: [usize; 11] = [1, 2, 3, 4, 5, 6, 7, 8, 9, 10, 12];
+pub const REFUSALS: [usize; 12] = [1, 2, 3, 4, 5, 6, 7, 8, 9, 10, 11, 12];
 
 /// How often there was each number: 0 for an answer, else the refusal.
 pub type Numbers = [u64; REFUSALS[REFUSALS.len() - 1] + 1];
@@ -19,6 +19,8 @@ pub struct Outcomes {
     pub reports: Numbers,
     /// Calls by the number of their answer.
     pub calls: Numbers,
+    /// Calls on several tables that were answered.
+    pub batches: u64,
     /// Tables looked at for demand 3.
     pub forced: u64,
     /// Its first half: invocations, none of them above the figure.
@@ -44,6 +46,7 @@ impl Outcomes {
         let refusals = REFUSALS.map(|number| (format!("refusal {number}"), self.calls[number]));
         let mut all: Vec<(String, u64)> = vec![("a settled table".into(), self.reports[0])];
         all.extend(refusals);
+        all.push(("an answered call on several tables".into(), self.batches));
         all.extend(self.mendings.counts());
         if by_force {
             all.push(("an invocation within its figure".into(), self.invocations));
@@ -60,6 +63,7 @@ impl AddAssign<&Outcomes> for Outcomes {
         let add = |to: &mut [u64], from: &[u64]| to.iter_mut().zip(from).for_each(|(to, from)| *to += from);
         add(&mut self.reports, &other.reports);
         add(&mut self.calls, &other.calls);
+        self.batches += other.batches;
         self.forced += other.forced;
         self.invocations += other.invocations;
         self.attained += other.attained;
@@ -77,6 +81,7 @@ impl fmt::Display for Outcomes {
         for number in REFUSALS {
             write!(out, ", refused as {number} {}", self.calls[number])?;
         }
+        write!(out, "; {} calls answered on several tables", self.batches)?;
         write!(
             out,
             "; demand 3 on {} tables, {} invocations, {} figures attained",

@@ -1,5 +1,6 @@
 //! The tables of a range of seeds, shared among threads.
 
+use crate::batches::{check_batch, numbers};
 use crate::call::Difference;
 use crate::check::{Checked, Effort, check};
 use crate::library::Library;
@@ -7,7 +8,7 @@ use crate::mending::{self, Mendings};
 use crate::options::Options;
 use crate::outcomes::Outcomes;
 use crate::shrink::shrink;
-use generator::{Rng, make, spoiled};
+use generator::{Rng, make, make_batch, spoiled};
 use simulator::question::judge;
 use simulator::reader::read;
 use simulator::walk::walk;
@@ -22,9 +23,13 @@ use std::thread;
 pub enum Fault {
     Differs { seed: u64, table: Vec<u8>, difference: Box<Difference> },
     Mends { seed: u64, text: Vec<u8>, difference: Box<mending::Difference> },
+    Batch { seed: u64, tables: Vec<u8>, what: String },
     Demand3 { seed: u64, table: Vec<u8>, what: String },
     Overlap { seed: u64, table: Vec<u8>, what: String },
 }
+
+/// Every so many seeds a call on several tables is made.
+const BATCHES: u64 = 4;
 
 /// Hyperperiods past the stop over which demand 3 is checked.
 const PAST: u32 = 3;
@@ -78,6 +83,9 @@ fn run_seed(library: &dyn Library, seed: u64, by_force: bool, outcomes: &mut Out
     }
     outcomes.reports[report_number(&report)] += 1;
     outcomes.calls.iter_mut().zip(calls).for_each(|(all, calls)| *all += calls);
+    if seed.is_multiple_of(BATCHES) {
+        run_batch(library, seed, outcomes)?;
+    }
     if by_force {
         outcomes.looked(force(seed, &table)?);
         outcomes.overlap += force_overlap(seed, &table)?;
@@ -93,6 +101,16 @@ fn mends(library: &dyn Library, seed: u64, seen: &mut Mendings) -> Result<(), Fa
     let text = shrink(&given, |smaller| differs(smaller).is_some());
     let difference = Box::new(differs(&text).unwrap_or(found));
     Err(Fault::Mends { seed, text, difference })
+}
+
+/// One call on several tables.
+fn run_batch(library: &dyn Library, seed: u64, outcomes: &mut Outcomes) -> Result<(), Fault> {
+    let asked = make_batch(seed);
+    let answer =
+        check_batch(library, &asked).map_err(|what| Fault::Batch { seed, tables: asked.tables, what })?;
+    outcomes.batches += u64::from(answer.answers.len() > 1);
+    numbers(&answer).into_iter().for_each(|number| outcomes.calls[number] += 1);
+    Ok(())
 }
 
 /// The numbers drawn for a seed's checks are not those of its table.
@@ -158,6 +176,7 @@ impl Fault {
         match self {
             Fault::Differs { seed, .. }
             | Fault::Mends { seed, .. }
+            | Fault::Batch { seed, .. }
             | Fault::Demand3 { seed, .. }
             | Fault::Overlap { seed, .. } => *seed,
         }
@@ -174,6 +193,9 @@ impl fmt::Display for Fault {
             Fault::Mends { seed, text, difference } => {
                 writeln!(out, "seed {seed} is mended otherwise; shrunken text:\n{}", shown(text))?;
                 write!(out, "{difference}")
+            }
+            Fault::Batch { seed, tables, what } => {
+                write!(out, "seed {seed} differs: {what}\n{}", shown(tables))
             }
             Fault::Demand3 { seed, table, what } => {
                 write!(out, "seed {seed} breaks demand 3: {what}\n{}", shown(table))

@@ -5,7 +5,7 @@ use compare::call::Question;
 use compare::library::{Library, Plain};
 use compare::options::Options;
 use compare::run::{Fault, run};
-use simulator::Answer;
+use simulator::{Answer, Batch};
 
 /// A plain engine whose answers are spoilt after the fact.
 struct Spoilt<F>(F);
@@ -23,6 +23,10 @@ impl<F: Fn(Question, &[u8], &mut [u8], Answer) -> Answer + Sync> Library for Spo
     fn row(&self, table: &[u8], instant: u64, buffer: &mut [u8]) -> Answer {
         let answer = Plain(Pace::Tick).row(table, instant, buffer);
         (self.0)(Question::Row(instant), table, buffer, answer)
+    }
+
+    fn batch(&self, tables: &[u8], lengths: &[usize], buffer: &mut [u8]) -> Batch {
+        Plain(Pace::Tick).batch(tables, lengths, buffer)
     }
 }
 

@@ -5,7 +5,7 @@ use compare::library::{Library, Plain};
 use compare::mending::Salvaged;
 use compare::options::Options;
 use compare::run::{Fault, run};
-use simulator::Answer;
+use simulator::{Answer, Batch};
 
 /// A plain salvage spoilt after the fact.
 struct Spoilt<F>(F);
@@ -21,6 +21,10 @@ impl<F: Fn(&[u8], &mut [u8], &mut [u8], Salvaged) -> Salvaged + Sync> Library fo
 
     fn row(&self, table: &[u8], instant: u64, buffer: &mut [u8]) -> Answer {
         Plain(Pace::Event).row(table, instant, buffer)
+    }
+
+    fn batch(&self, tables: &[u8], lengths: &[usize], buffer: &mut [u8]) -> Batch {
+        Plain(Pace::Event).batch(tables, lengths, buffer)
     }
 
     fn salvage(&self, given: &[u8], text: &mut [u8], list: &mut [u8]) -> Salvaged {

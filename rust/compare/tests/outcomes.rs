@@ -6,8 +6,8 @@ use compare::mending::{KINDS, Mendings};
 use compare::options::Options;
 use compare::outcomes::{Numbers, Outcomes, REFUSALS};
 use compare::run::run;
-use simulator::Answer;
 use simulator::overlap::Looked;
+use simulator::{Answer, Batch};
 use std::process::Command;
 
 /// Outcomes that have all come up once.
@@ -16,7 +16,16 @@ fn all() -> Outcomes {
     let overlap = Looked { overlaps: 1, starts: 1 };
     let mendings =
         Mendings { texts: 1, unchanged: 1, fixes: [1; KINDS + 1], answered: 1, too_long: 1, short: 1 };
-    Outcomes { reports: once, calls: once, forced: 1, invocations: 1, attained: 1, overlap, mendings }
+    Outcomes {
+        reports: once,
+        calls: once,
+        batches: 1,
+        forced: 1,
+        invocations: 1,
+        attained: 1,
+        overlap,
+        mendings,
+    }
 }
 
 #[test]
@@ -46,6 +55,7 @@ fn each_outcome_is_missed() {
     let mut unsettled = all();
     unsettled.reports[0] = 0;
     assert_eq!(unsettled.missing(true), ["a settled table"]);
+    assert_eq!(Outcomes { batches: 0, ..all() }.missing(true), ["an answered call on several tables"]);
     let bare = Outcomes { invocations: 0, attained: 0, ..all() };
     assert_eq!(bare.missing(true), ["an invocation within its figure", "a figure attained"]);
     assert!(bare.missing(false).is_empty());
@@ -97,6 +107,10 @@ impl Library for OftenWrong {
 
     fn row(&self, table: &[u8], instant: u64, buffer: &mut [u8]) -> Answer {
         Plain(Pace::Tick).row(table, instant, buffer)
+    }
+
+    fn batch(&self, tables: &[u8], lengths: &[usize], buffer: &mut [u8]) -> Batch {
+        Plain(Pace::Tick).batch(tables, lengths, buffer)
     }
 }
 

@@ -7,9 +7,11 @@
 //! - `limits`: tables at a limit or one past it;
 //! - `damage`: texts that are no tables any more;
 //! - `spoil`: tables that other editors spoiled;
-//! - `make`: the table of a seed, of any kind.
+//! - `make`: the table of a seed, of any kind;
+//! - `batches`: several tables with their lengths, or wrong ones.
 #![forbid(unsafe_code)]
 
+pub mod batches;
 pub mod damage;
 pub mod fill;
 pub mod kinds;
@@ -19,6 +21,7 @@ pub mod rng;
 pub mod shapes;
 pub mod spoil;
 
+pub use batches::{Batch, make_batch};
 pub use kinds::Kind;
 pub use make::{Made, make};
 pub use rng::Rng;

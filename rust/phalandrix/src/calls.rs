@@ -4,7 +4,7 @@
 //! passed pointer and length of a slice, which the slice keeps alive and, for the buffer, alone for the
 //! whole call; the library reads no byte outside the table and writes none outside the buffer.
 
-use crate::refusal::Refusal;
+use crate::refusal::{Refusal, TABLES};
 
 /// What a call returns: number, line and column 0 and the length of the text; or the number of a
 /// refusal, its line and its column (0 where it has none) and length 0.
@@ -36,6 +36,38 @@ impl Answer {
     }
 }
 
+/// What a call on several tables returns: number, line and column 0 and as many answers as tables; or the
+/// number of a refusal and count 0. The answers past the count are all zeros.
+#[repr(C)]
+#[derive(Clone, Copy, Debug, PartialEq, Eq)]
+#[must_use = "it may be a refusal"]
+pub struct BatchAnswer {
+    /// 0 where the tables were answered, each for itself; else the number of the refusal.
+    pub number: u32,
+    /// Always 0.
+    pub line: u32,
+    /// Always 0.
+    pub column: u32,
+    /// How many tables were answered.
+    pub count: usize,
+    /// The answer to each table.
+    pub answers: [Answer; TABLES],
+}
+
+impl BatchAnswer {
+    /// The answers, one for each table, or the refusal of the call.
+    ///
+    /// # Errors
+    ///
+    /// The refusal of the call as a whole, 11. A table's own refusal is in its answer.
+    pub fn result(&self) -> Result<&[Answer], Refusal> {
+        match self.number {
+            0 => Ok(&self.answers[..self.count]),
+            number => Err(Refusal::new(number, self.line, self.column)),
+        }
+    }
+}
+
 unsafe extern "C" {
     fn phalandrix_report(table: *const u8, table_len: usize, buffer: *mut u8, buffer_len: usize) -> Answer;
     fn phalandrix_row(
@@ -45,6 +77,14 @@ unsafe extern "C" {
         buffer: *mut u8,
         buffer_len: usize,
     ) -> Answer;
+    fn phalandrix_batch(
+        tables: *const u8,
+        tables_len: usize,
+        lengths: *const usize,
+        count: usize,
+        buffer: *mut u8,
+        buffer_len: usize,
+    ) -> BatchAnswer;
 }
 
 /// The report of a table, written at the beginning of the lent buffer. The rest of the buffer is left as
@@ -61,4 +101,34 @@ pub fn report(table: &[u8], buffer: &mut [u8]) -> Answer {
 pub fn row(table: &[u8], instant: u64, buffer: &mut [u8]) -> Answer {
     // SAFETY: as in `report`; the instant is a plain number.
     unsafe { phalandrix_row(table.as_ptr(), table.len(), instant, buffer.as_mut_ptr(), buffer.len()) }
+}
+
+/// The reports of 1 to 16 tables that stand end to end, with a list of their lengths. The lent buffer is cut
+/// into equal shares, one per table; each answer and share are what [`report`] gives for that table and
+/// share, and bytes behind the last share are left as they were. On refusal all of the buffer is.
+pub fn batch(tables: &[u8], lengths: &[usize], buffer: &mut [u8]) -> BatchAnswer {
+    // SAFETY: as in `report`; the lengths come with their own count, and are only read.
+    unsafe {
+        phalandrix_batch(
+            tables.as_ptr(),
+            tables.len(),
+            lengths.as_ptr(),
+            lengths.len(),
+            buffer.as_mut_ptr(),
+            buffer.len(),
+        )
+    }
+}
+
+/// The text, or the refusal, of each table of a [`batch`] call that was answered: its share of the buffer
+/// as far as its text goes.
+pub fn shares<'a>(
+    answers: &'a [Answer],
+    buffer: &'a [u8],
+) -> impl Iterator<Item = Result<&'a [u8], Refusal>> + 'a {
+    let size = buffer.len().checked_div(answers.len()).unwrap_or(0);
+    answers
+        .iter()
+        .enumerate()
+        .map(move |(i, answer)| answer.result().map(|length| &buffer[i * size..i * size + length]))
 }

@@ -1,7 +1,8 @@
 //! How old the result of each periodic graph of a table can be, by the proved library.
 //!
 //! [`report_of`] and [`row_at`] give an answer or a [`Refusal`]; [`report`] and [`row`] are the plain
-//! calls below them, with a buffer lent by the caller. docs/TABLE.md in the repository says what a table
+//! calls below them, with a buffer lent by the caller. [`batch`] reports several tables in one call, and
+//! [`shares`] goes over its results. docs/TABLE.md in the repository says what a table
 //! and its answers mean.
 //!
 //! ```
@@ -14,6 +15,13 @@
 //! let row = phalandrix::row_at(table, 5)?;
 //! let run = row.runs().next().expect("one server job runs");
 //! assert_eq!((run.graph, run.node, run.server_job, run.invocation), (1, 2, 2, Some(1)));
+//!
+//! let two = [table.as_slice(), b"x"];
+//! let mut buffer = [0; 2 * phalandrix::REPORT_BYTES];
+//! let answer = phalandrix::batch(&two.concat(), &two.map(<[u8]>::len), &mut buffer);
+//! let results: Vec<_> = phalandrix::shares(answer.result()?, &buffer).collect();
+//! assert_eq!(results[0], Ok(report.as_str().as_bytes()));
+//! assert_eq!(results[1].unwrap_err().reason, phalandrix::Reason::Misspelled);
 //!
 //! let refusal = phalandrix::report_of(b"processors=9\n").unwrap_err();
 //! assert_eq!((refusal.reason, refusal.line, refusal.column), (phalandrix::Reason::OutsideLimits, 1, 12));
@@ -35,9 +43,10 @@ mod rows;
 mod salvage;
 mod text;
 
-pub use calls::{Answer, report, row};
+pub use calls::{Answer, BatchAnswer, batch, report, row, shares};
 pub use refusal::{
-    FIXES_BYTES, InTable, REPORT_BYTES, ROW_BYTES, Reason, Refusal, SALVAGE_BYTES, STACK_BYTES, VERSION,
+    FIXES_BYTES, InTable, REPORT_BYTES, ROW_BYTES, Reason, Refusal, SALVAGE_BYTES, STACK_BYTES, TABLES,
+    VERSION,
 };
 pub use reports::{Report, report_of};
 pub use rows::{Row, Run, row_at};

@@ -10,12 +10,13 @@
 //! - `schedule`: rules 1 to 6 over whole histories (`history`);
 //! - `state`, `walk`: the state at a boundary and where the walk stops;
 //! - `reply`, `text`: answers, refusals and the lent buffer;
-//! - `question`: the two calls;
+//! - `question`: the two calls on one table; `batch`: several tables in one call;
 //! - `salvage`: R-5, from document 02 alone;
 //! - `demand3`: the figure checked by force;
 //! - `overlap`: R-8 checked by force.
 #![forbid(unsafe_code)]
 
+pub mod batch;
 pub mod demand3;
 pub mod history;
 pub mod limits;
@@ -31,6 +32,7 @@ pub mod table;
 pub mod text;
 pub mod walk;
 
+pub use batch::{Batch, batch};
 pub use question::{report, row};
 pub use reply::{Answer, Refusal, Reply, lend};
 pub use table::{Graph, Node, Table};

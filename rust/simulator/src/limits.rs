@@ -1,4 +1,4 @@
-//! The limits of document 01, each in one place.
+//! The limits of documents 01 and 02, each in one place.
 
 /// The values a number may take: `from` to `to`, both included.
 #[derive(Clone, Copy, Debug, PartialEq, Eq)]
@@ -24,6 +24,9 @@ pub const NODES: Limit = Limit { from: 1, to: 16 };
 pub const ALL_NODES: u32 = 32;
 pub const LEVEL: Limit = Limit { from: 1, to: 4 };
 pub const HYPERPERIOD: u32 = 20_000;
+
+/// Tables of one call.
+pub const TABLES: Limit = Limit { from: 1, to: 16 };
 
 /// More pending server jobs of one server than this is backlog.
 pub const PENDING: usize = 16;

@@ -8,30 +8,25 @@ use Rattle.asking.proofs.questions.asked_by.Tie as tie
 returns : tie.Need-returns
 returns c = rw (c .if1 .taken)
 
-output-asked-requires : tie.Need-output-asked-requires
-output-asked-requires c κs = search needs
+is-batch-requires : tie.Need-is-batch-requires
+is-batch-requires c κs = search needs
+
+batch-asked-requires : tie.Need-batch-asked-requires
+batch-asked-requires c κs = search needs
 
 returns-2 : tie.Need-returns-2
-returns-2 c = rw (c .before .if2 .taken) (c .output-asked .ensures)
+returns-2 c =
+    let count = c .before .before .before .before .before .args .count in
+    rw (ne-eqb count 1 (c .before .before .before .if1 .left), sym (c .before .before .is-batch .ensures) ∙ c .before .if2 .taken) (c .batch-asked .ensures)
 
-is-row-requires : tie.Need-is-row-requires
-is-row-requires c κs = search needs
-
-row-asked-requires : tie.Need-row-asked-requires
-row-asked-requires c κs = search needs
+text-asked-by-requires : tie.Need-text-asked-by-requires
+text-asked-by-requires c κs = search needs
 
 returns-3 : tie.Need-returns-3
 returns-3 c =
-    rw (c .before .before .before .if3 .taken, sym (c .before .before .is-row .ensures) ∙ c .before .if4 .taken) (c .row-asked .ensures)
-
-returns-4 : tie.Need-returns-4
-returns-4 c = rw (c .before .before .if3 .taken, sym (c .before .is-row .ensures) ∙ c .if4 .left)
-
-returns-5 : tie.Need-returns-5
-returns-5 c =
-    let count = c .before .before .before .before .args .count in
-    rw (ne-eqb count 1 (c .before .before .if1 .left), ne-eqb count 2 (c .before .if2 .left), ne-eqb count 3 (c .if3 .left))
+    let count = c .before .before .before .before .before .args .count in
+    rw (ne-eqb count 1 (c .before .before .before .if1 .left), sym (c .before .before .is-batch .ensures) ∙ c .before .if2 .left) (c .text-asked-by .ensures)
 
 pub asked-by-spec : {M : Type 1} → statement M
 asked-by-spec =
-    tie.close (tie.spec returns output-asked-requires returns-2 is-row-requires row-asked-requires returns-3 returns-4 returns-5)
+    tie.close (tie.spec returns is-batch-requires batch-asked-requires returns-2 text-asked-by-requires returns-3)

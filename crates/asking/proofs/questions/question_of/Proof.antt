@@ -17,7 +17,7 @@ returns : tie.Need-returns
 returns c =
     let s = c .before .before .before in (
       c .asked-by .ensures,
-      λ arguments told. c .asked-by .ensures ∙ asked-is arguments (s .args .count) (now (s .args .room)) (s .args .n) (s .args .instant) (s .pre .0) told,
+      λ arguments told. c .asked-by .ensures ∙ asked-is arguments (s .args .count) (now (s .args .room)) (s .args .n) (s .args .instant) (s .args .lengths) (s .pre .0) told,
     )
 
 pub question-of-spec : {M : Type 1} → statement M

@@ -1,0 +1,3 @@
+pub mod Placing
+pub mod Sharing
+pub mod TrueBatches
