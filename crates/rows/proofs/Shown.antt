@@ -20,11 +20,11 @@ use Rattle.theorems.proofs.InTurn.{completed}
 use Rattle.theorems.proofs.Linking.{linkOf}
 use Rattle.theorems.proofs.Finishing.{link-le}
 use Rattle.table.specs.declared.Pending.{Pending}
-use Rattle.table.specs.declared.Seen.{Seen}
 use Rattle.table.specs.declared.State.{State}
 use Rattle.window.specs.declared.Plan.{Plan}
 use Rattle.window.specs.Entries.{places, window, slotOf, serverAt, countAt, leadAt}
 use Rattle.window.specs.Choosing.{Picks, chosen}
+use Rattle.window.specs.Walking.{seenOf}
 use Rattle.window.proofs.Relation.{lastInstant, Fits, Slot, Released}
 use Rattle.window.proofs.Keys.{slotJob, slotKey}
 use Rattle.window.proofs.Ranks.{readyAt, rankAt}
@@ -52,10 +52,6 @@ invocation-is L k p s h =
     let b : p .behind ≡ k - L k = s .behind ∙ rw e in
     rw (s .linked, e, b) (omega arith))
     (λ l. let e = le-ltb 0 (L k) l in rw (s .linked, e) (omega arith))
-
--- what is shown of a state
-abbrev pub seenOf : State → Seen
-seenOf st = record { servers = st .servers; first = st .first; count = st .count; worst = st .worst }
 
 module _ (X : Box) (plan : Plan) (offsets : List ℕ) (st : State) (fits : Fits X plan)
     (offsets-fit : (i : ℕ) → i < length (X .servers) → getD offsets i 0 ≡ (srv (X .servers) i) .offset) (t : ℕ) (rel : Released X t st)

@@ -11,7 +11,7 @@ use Rattle.rules.specs.Admission.{Admission, admitted, refused, admissionOf}
 use Rattle.rules.specs.Answers.{refuses, rowOf, rowOn}
 use Rattle.schedule.proofs.Tests.{by-lt}
 use Rattle.scanning.specs.Positions.{far, kept}
-use Rattle.walking.proofs.Walked.{stop}
+use Rattle.window.proofs.Walked.{stop}
 use Rattle.sheet.proofs.Room.{in-time}
 use Rattle.sheet.proofs.RowCalls.{rules-row, refused-row}
 

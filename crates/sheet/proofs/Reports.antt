@@ -18,13 +18,13 @@ use Rattle.schedule.proofs.Tests.{either-way}
 use Rattle.theorems.proofs.FirstStop.{stops-in-time}
 use Rattle.rules.proofs.ReadWellFormed.{admitted-well-formed}
 use Rattle.window.specs.Entries.{lastKey}
-use Rattle.walking.proofs.Ends.{howOf}
-use Rattle.walking.proofs.Walked.{stop, AtStop}
+use Rattle.window.proofs.Ends.{howOf}
+use Rattle.window.proofs.Walked.{stop, AtStop}
 use Rattle.sheet.specs.Figures.{figuresOf}
 use Rattle.sheet.specs.Walks.{Walkable, walkOfTable, stopOf}
 use Rattle.admission.specs.Admission.{codedAdmission}
 use Rattle.admission.specs.declared.admitting.Admitted.{Admitted}
-use Rattle.walking.specs.declared.Walk.{Walk}
+use Rattle.window.specs.declared.Walk.{Walk}
 use Rattle.sheet.proofs.Admissions.{Passes}
 use Rattle.sheet.proofs.TableWalks.{X, M, a, walkable, few-graphs, table-walked, figures-are}
 

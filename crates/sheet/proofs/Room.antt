@@ -23,7 +23,7 @@ use Rattle.theorems.proofs.LeastTrue.{figures-are-least-true}
 use Rattle.planning.proofs.NodeFits.{few}
 use Rattle.planning.proofs.Boundaries.{last-boundary}
 use Rattle.window.proofs.Relation.{lastInstant}
-use Rattle.walking.proofs.Walked.{stop}
+use Rattle.window.proofs.Walked.{stop}
 use Rattle.writing.specs.Lengths.{longestReport}
 use Rattle.sheet.proofs.Reports.{ok, short, refused-report}
 use Rattle.sheet.proofs.TextLengths.{report-short}

@@ -24,9 +24,9 @@ use Rattle.planning.specs.Plans.{planOf}
 use Rattle.planning.specs.Offsets.{offsetsOf}
 use Rattle.planning.proofs.Fits.{plan-fits, offsets-fit}
 use Rattle.planning.proofs.Boundaries.{last-boundary}
-use Rattle.walking.specs.declared.Walk.{Walk}
-use Rattle.walking.proofs.Ends.{howOf}
-use Rattle.walking.proofs.Walked.{stop, AtStop, BeforeStop}
+use Rattle.window.specs.declared.Walk.{Walk}
+use Rattle.window.proofs.Ends.{howOf}
+use Rattle.window.proofs.Walked.{stop, AtStop, BeforeStop}
 use Rattle.writing.specs.Row.{runningIn}
 use Rattle.rows.specs.Showing.{rowOf}
 use Rattle.rows.proofs.Shown.{row-shown}

@@ -17,12 +17,13 @@ use Rattle.planning.specs.Plans.{planOf}
 use Rattle.planning.specs.Offsets.{offsetsOf}
 use Rattle.planning.proofs.NodeFits.{few, room}
 use Rattle.planning.proofs.Fits.{plan-fits, offsets-fit}
-use Rattle.walking.proofs.Walked.{stop}
+use Rattle.window.proofs.Walked.{stop}
 use Rattle.writing.specs.Lengths.{longestRow}
 use Rattle.writing.specs.Row.{runningOf}
 use Rattle.rows.specs.Showing as Showing
 use Rattle.rows.proofs.Entries.{row-few}
-use Rattle.rows.proofs.Shown.{seenOf, row-shown}
+use Rattle.window.specs.Walking.{seenOf}
+use Rattle.rows.proofs.Shown.{row-shown}
 use Rattle.sheet.proofs.TableWalks.{M, table-walked}
 use Rattle.sheet.proofs.Reports.{ok, short}
 use Rattle.sheet.proofs.RowCalls.{rules-row, refused-row}

@@ -35,9 +35,9 @@ use Rattle.planning.proofs.Memory.{codedGraph}
 use Rattle.planning.proofs.NodeFits.{few, room, laid}
 use Rattle.planning.proofs.Fits.{plan-fits, offsets-sized, offsets-fit, largest-fits}
 use Rattle.planning.proofs.Boundaries.{hyper-some, last-boundary}
-use Rattle.walking.specs.declared.Walk.{Walk}
-use Rattle.walking.specs.Walking.{walkOf}
-use Rattle.walking.proofs.Walked.{stop, AtStop, BeforeStop, walked-is}
+use Rattle.window.specs.declared.Walk.{Walk}
+use Rattle.window.specs.Walking.{walkOf}
+use Rattle.window.proofs.Walked.{stop, AtStop, BeforeStop, walked-is}
 use Rattle.sheet.specs.Figures.{sinkOf, figureOf, figuresOf}
 use Rattle.sheet.specs.Walks.{Walkable, walkOfTable}
 

@@ -4,9 +4,9 @@ use Rattle.rules.specs.Answers.{Reply, says, refuses, rowText}
 use Rattle.table.specs.declared.Table.{Table}
 use Rattle.planning.specs.Plans.{planOf}
 use Rattle.planning.specs.Offsets.{offsetsOf}
-use Rattle.walking.specs.declared.How.{How}
-use Rattle.walking.specs.declared.How.the-variants.{Settled, Unsettled, Backlog, Reached}
-use Rattle.walking.specs.declared.Walk.{Walk}
+use Rattle.window.specs.declared.How.{How}
+use Rattle.window.specs.declared.How.the-variants.{Settled, Unsettled, Backlog, Reached}
+use Rattle.window.specs.declared.Walk.{Walk}
 use Rattle.writing.specs.Row.{runningIn}
 use Rattle.rows.specs.Showing.{rowOf}
 

@@ -5,10 +5,10 @@ use Rattle.schedule.specs.Walk.{Stop, settled, unsettled, backlog}
 use Rattle.admission.specs.declared.admitting.Admitted.{Admitted}
 use Rattle.planning.specs.Plans.{planOf}
 use Rattle.planning.specs.Offsets.{offsetsOf, largestOffsetOf}
-use Rattle.walking.specs.declared.How.{How}
-use Rattle.walking.specs.declared.How.the-variants.{Settled, Unsettled, Backlog, Reached}
-use Rattle.walking.specs.declared.Walk.{Walk}
-use Rattle.walking.specs.Walking.{walkOf}
+use Rattle.window.specs.declared.How.{How}
+use Rattle.window.specs.declared.How.the-variants.{Settled, Unsettled, Backlog, Reached}
+use Rattle.window.specs.declared.Walk.{Walk}
+use Rattle.window.specs.Walking.{walkOf}
 
 -- what the walk asks of a table
 pub record Walkable (a : Admitted) : Type 0 where

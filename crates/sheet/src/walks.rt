@@ -1,6 +1,6 @@
 // The walk of an admitted table.
 use admission::Admitted;
-use walking::Walk;
+use window::Walk;
 ghost use mathlib.Core.Path.{_≡_};
 ghost use Rattle.sheet.specs.Walks.{Walkable, walkOfTable};
 

@@ -16,9 +16,9 @@ use Rattle.window.specs.Entries.{further, nodesOf}
 use Rattle.window.specs.Releasing.{earliest, anyFull, released, releasedAt}
 use Rattle.window.specs.Comparing.{sameCounts, samePhases, sameLeft, sameNumbers, sameWindows, sameStates, keep}
 use Rattle.window.specs.Working.{spanOf, worked}
-use Rattle.walking.specs.declared.How.the-variants.{Settled, Unsettled, Backlog, Reached}
-use Rattle.walking.specs.declared.Walk.{Walk}
-use Rattle.walking.specs.Walking.{ended, keptOf, walkFrom, walkOf}
+use Rattle.window.specs.declared.How.the-variants.{Settled, Unsettled, Backlog, Reached}
+use Rattle.window.specs.declared.Walk.{Walk}
+use Rattle.window.specs.Walking.{ended, keptOf, walkFrom, walkOf}
 
 abbrev pub numbers : State → Kept → (hyper n : ℕ) → Bool
 numbers st kept hyper n =

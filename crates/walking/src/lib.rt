@@ -3,27 +3,13 @@ use table::Kept;
 use table::Seen;
 use table::Server;
 use table::Table;
+use window::How;
 use window::Plan;
+use window::Walk;
 ghost use mathlib.Core.Path.{_≡_};
 ghost use Prim.Native.Nat.{_+_, _*_, _≤_};
 ghost use Rattle.schedule.specs.Limits as Limits;
-ghost use Rattle.walking.specs.Walking as Mirror;
-
-// How a walk ended: in one of document 01's three ways, settled with its round; or at the instant asked, before any of them.
-pub enum How {
-    Settled(u32),
-    Unsettled,
-    Backlog,
-    Reached,
-}
-
-// How, at which instant, and what is shown of the state there: before the releases of that instant, but after them where the walk ended at
-// the instant asked.
-pub struct Walk {
-    pub how: How,
-    pub ticks: u32,
-    pub state: Seen,
-}
+ghost use Rattle.window.specs.Walking as Mirror;
 
 pub fn ended(
     how: How,

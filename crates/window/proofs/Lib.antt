@@ -27,3 +27,6 @@ pub mod Moving
 pub mod Dropping
 pub mod Finished
 pub mod Working
+pub mod Boundaries
+pub mod Ends
+pub mod Walked

@@ -6,3 +6,4 @@ pub mod Spending
 pub mod Finishing
 pub mod Comparing
 pub mod Working
+pub mod Walking

@@ -8,7 +8,7 @@ use Rattle.window.specs.Loops.{inTurn}
 use Rattle.window.specs.Releasing.{releaseOne, earliest}
 use Rattle.window.specs.Choosing.{placeOf}
 use Rattle.window.specs.Finishing.{finishAt}
-use Rattle.walking.specs.Walking.{walkFrom}
+use Rattle.window.specs.Walking.{walkFrom}
 use Rattle.walking.proofs.Steps.{Remains}
 use Rattle.walking.proofs.Turns.{stateOf, keptTo}
 use Rattle.walking.proofs.walk_to.Tie as tie

@@ -10,8 +10,8 @@ use Rattle.table.specs.declared.Kept.{Kept}
 use Rattle.window.specs.declared.Plan.{Plan}
 use Rattle.window.specs.Entries.{places, window, nodesOf}
 use Rattle.window.specs.Releasing.{earliest}
-use Rattle.walking.specs.declared.Walk.{Walk}
-use Rattle.walking.specs.Walking.{walkFrom, walkOf}
+use Rattle.window.specs.declared.Walk.{Walk}
+use Rattle.window.specs.Walking.{walkFrom, walkOf}
 use Rattle.walking.proofs.Steps.{Differs, differs-windows, differs-numbers, differs-first, Passes, passes-boundary, passes-between, Goes, goes-released, goes-without, after, from-here, from-start}
 use Rattle.walking.proofs.Turns.{stateOf, same-locals, earliest-of, room-for-one, releases-all, few-picked, keeps-all}
 use Rattle.walking.proofs.Bounds.{not-past, Ahead, ahead-boundary, ahead-between, Span, span-within}

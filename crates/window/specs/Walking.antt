@@ -7,14 +7,14 @@ use Rattle.table.specs.declared.State.{State}
 use Rattle.table.specs.declared.Kept.{Kept}
 use Rattle.table.specs.declared.Seen.{Seen}
 use Rattle.table.specs.Fresh.{freshState}
 use Rattle.window.specs.declared.Plan.{Plan}
 use Rattle.window.specs.Entries.{further, nodesOf}
 use Rattle.window.specs.Releasing.{anyFull, releasedAt, earliest}
 use Rattle.window.specs.Comparing.{sameStates, keep}
 use Rattle.window.specs.Working.{spanOf, worked}
-use Rattle.walking.specs.declared.How.{How}
-use Rattle.walking.specs.declared.How.the-variants.{Settled, Unsettled, Backlog, Reached}
-use Rattle.walking.specs.declared.Walk.{Walk}
+use Rattle.window.specs.declared.How.{How}
+use Rattle.window.specs.declared.How.the-variants.{Settled, Unsettled, Backlog, Reached}
+use Rattle.window.specs.declared.Walk.{Walk}
 
 -- what is shown of a state
 abbrev pub seenOf : State → Seen

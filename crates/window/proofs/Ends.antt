@@ -24,24 +24,24 @@ use Rattle.theorems.proofs.QuietWalk.{whole-ahead, goes-on-within}
 use Rattle.table.specs.declared.State.{State}
 use Rattle.table.specs.declared.Kept.{Kept}
 use Rattle.table.specs.Fresh.{freshState}
 use Rattle.window.specs.declared.Plan.{Plan}
 use Rattle.window.specs.Entries.{further, nodesOf}
 use Rattle.window.specs.Releasing.{releasedAt}
 use Rattle.window.specs.Comparing.{keep}
 use Rattle.window.specs.Working.{worked}
 use Rattle.window.proofs.Relation.{lastInstant, Fits, InStep, Released}
 use Rattle.window.proofs.Places.{sink-at}
 use Rattle.window.proofs.Backlog.{backlog-is}
 use Rattle.window.proofs.Release.{release-keeps}
 use Rattle.window.proofs.Keeping.{KeptSized, Holds, keep-sized, keep-holds}
 use Rattle.window.proofs.Compare.{same-states}
 use Rattle.window.proofs.Working.{works}
-use Rattle.walking.specs.declared.How.{How}
-use Rattle.walking.specs.declared.How.the-variants.{Settled, Unsettled, Backlog, Reached}
-use Rattle.walking.specs.declared.Walk.{Walk}
-use Rattle.walking.specs.Walking.{seenOf, keptOf, ended, settles, runsOut, backlogs, laterOf, roundOf, keptFrom, ticksFrom, decided}
-use Rattle.walking.specs.Walking.{walkFrom, walkOf}
-use Rattle.walking.proofs.Boundaries.{Next, boundary-is, round-is, last-is, within, not-at, next-most, later-same, later-next, next-within}
+use Rattle.window.specs.declared.How.{How}
+use Rattle.window.specs.declared.How.the-variants.{Settled, Unsettled, Backlog, Reached}
+use Rattle.window.specs.declared.Walk.{Walk}
+use Rattle.window.specs.Walking.{seenOf, keptOf, ended, settles, runsOut, backlogs, laterOf, roundOf, keptFrom, ticksFrom, decided}
+use Rattle.window.specs.Walking.{walkFrom, walkOf}
+use Rattle.window.proofs.Boundaries.{Next, boundary-is, round-is, last-is, within, not-at, next-most, later-same, later-next, next-within}
 
 -- the engine's word for a stop of the rules
 abbrev pub howOf : Stop → How

@@ -13,14 +13,14 @@ use Rattle.schedule.proofs.Tests.{by-lt, either-way}
 use Rattle.theorems.proofs.Unique.{first-stop-is-unique}
 use Rattle.theorems.proofs.FirstStop.{stopped-is-first}
 use Rattle.table.specs.declared.State.{State}
 use Rattle.window.specs.declared.Plan.{Plan}
 use Rattle.window.specs.Entries.{places}
 use Rattle.window.proofs.Relation.{lastInstant, Fits, InStep, Released}
 use Rattle.window.proofs.Fresh.{fresh-in-step}
-use Rattle.walking.specs.declared.How.the-variants.{Reached}
-use Rattle.walking.specs.declared.Walk.{Walk}
-use Rattle.walking.specs.Walking.{seenOf, walkOf}
-use Rattle.walking.proofs.Ends.{howOf, Stops, Comes, walk-ends}
+use Rattle.window.specs.declared.How.the-variants.{Reached}
+use Rattle.window.specs.declared.Walk.{Walk}
+use Rattle.window.specs.Walking.{seenOf, walkOf}
+use Rattle.window.proofs.Ends.{howOf, Stops, Comes, walk-ends}
 
 module _ (X : Box) where
   abbrev pub stop : Stopped
