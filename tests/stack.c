@@ -1,5 +1,6 @@
-/* The stack of the calls: each table named is reported, and its row taken at 0, on a stack that was
- * painted before, and the paint gone is counted. PHALANDRIX_STACK_BYTES must hold every call. */
+/* The stack of the calls: each table named is reported, and its row taken at 0 and at the last
+ * instant, on a stack that was painted before, and the paint gone is counted.
+ * PHALANDRIX_STACK_BYTES must hold every call. */
 #define _GNU_SOURCE
 #include "phalandrix.h"
 
@@ -18,6 +19,10 @@ static ucontext_t here, there;
 static void nothing(void) { }
 static void make_report(void) { phalandrix_report(table, table_length, buffer, sizeof buffer); }
 static void make_row(void) { phalandrix_row(table, table_length, 0, buffer, sizeof buffer); }
+static void make_far_row(void)
+{
+    phalandrix_row(table, table_length, PHALANDRIX_LAST_INSTANT, buffer, sizeof buffer);
+}
 
 /* The bytes of a painted stack that are no longer as they were. */
 static size_t used_by(void (*call)(void))
@@ -60,6 +65,7 @@ int main(int count, char **names)
         }
         report = larger(report, used_by(make_report) - without);
         row = larger(row, used_by(make_row) - without);
+        row = larger(row, used_by(make_far_row) - without);
     }
     printf("tests/stack: over %d tables report used %zu bytes of stack, row %zu; the header says %d\n",
            count - 1, report, row, PHALANDRIX_STACK_BYTES);

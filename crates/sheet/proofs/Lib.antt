@@ -2,10 +2,13 @@ pub mod CallLaws
 pub mod Admissions
 pub mod TableWalks
 pub mod Reports
-pub mod RowCalls
-pub mod ExportLaws
+pub mod HasRow
 pub mod TextLengths
 pub mod RowNumbers
+pub mod MovedRows
+pub mod RowCalls
+pub mod RowTold
+pub mod ExportLaws
 pub mod Room
 pub mod RowRoom
 pub mod FarRows

@@ -6,6 +6,7 @@ mod rowing;
 mod walks;
 
 pub use exports::PhalandrixAnswer;
+pub use exports::PhalandrixRowAnswer;
 pub use exports::phalandrix_report;
 pub use exports::phalandrix_row;
 pub use reporting::report;

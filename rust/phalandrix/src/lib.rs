@@ -14,6 +14,9 @@
 //! let row = phalandrix::row_at(table, 5)?;
 //! let run = row.runs().next().expect("one server job runs");
 //! assert_eq!((run.graph, run.node, run.server_job, run.invocation), (1, 2, 2, Some(1)));
+//! // Far past the stop at tick 8, where the schedule was seen to repeat:
+//! let row = phalandrix::row_at(table, 4_000_000_000)?;
+//! assert_eq!((row.as_str(), row.walked()), ("run=1,1,1000000001,1000000001\n", 8));
 //!
 //! let refusal = phalandrix::report_of(b"processors=9\n").unwrap_err();
 //! assert_eq!((refusal.reason, refusal.line, refusal.column), (phalandrix::Reason::OutsideLimits, 1, 12));
@@ -33,7 +36,7 @@ mod reports;
 mod rows;
 mod text;
 
-pub use calls::{Answer, report, row};
+pub use calls::{Answer, RowAnswer, report, row};
 pub use refusal::{InTable, REPORT_BYTES, ROW_BYTES, Reason, Refusal, STACK_BYTES, VERSION};
 pub use reports::{Report, report_of};
 pub use rows::{Row, Run, row_at};

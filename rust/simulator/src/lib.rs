@@ -11,11 +11,13 @@
 //! - `state`, `walk`: the state at a boundary and where the walk stops;
 //! - `reply`, `text`: answers, refusals and the lent buffer;
 //! - `question`: the two calls;
+//! - `far`: rows past the stop;
 //! - `demand3`: the figure checked by force;
 //! - `overlap`: R-8 checked by force.
 #![forbid(unsafe_code)]
 
 pub mod demand3;
+pub mod far;
 pub mod history;
 pub mod limits;
 pub mod load;

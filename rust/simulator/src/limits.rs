@@ -25,6 +25,9 @@ pub const ALL_NODES: u32 = 32;
 pub const LEVEL: Limit = Limit { from: 1, to: 4 };
 pub const HYPERPERIOD: u32 = 20_000;
 
+/// Document 02, R-10: the last instant at which there is a row.
+pub const INSTANT: u64 = 4_000_000_000;
+
 /// More pending server jobs of one server than this is backlog.
 pub const PENDING: usize = 16;
 /// More unfinished invocations of one graph than this is backlog.
