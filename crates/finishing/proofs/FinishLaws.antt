@@ -1,17 +1,17 @@
 -- Finishing: budgets and a window moved down by one slot; the test of the oldest server job.
-use mathlib.Core.Path.{_≡_, sym, _∙_}
+use mathlib.Core.Path.{_≡_, sym, ap, _∙_}
 use mathlib.Core.Bool.{Bool, true, false, _&&_}
 use mathlib.Core.List.{List}
 use mathlib.Core.Logic.{_⊎_}
-use Prim.Native.Nat.{ℕ, suc, _+_, _≤_, _<_}
+use Prim.Native.Nat.{ℕ, suc, _+_, _*_, _-_, _≤_, _<_}
 use native.Mathlib.Numerals.{add-one}
 use lib.ListN.{getD, set}
 use borrow.Author.Tests.{lt-ltb, le-ltb}
 use Rattle.schedule.proofs.Tests.{either-way}
 use Rattle.table.specs.declared.Server.{Server}
-use Rattle.window.specs.Entries.{lastKey, further, slotOf}
+use Rattle.window.specs.Entries.{window, lastKey, further, slotOf}
 use Rattle.window.specs.Loops.{replaced}
-use Rattle.window.specs.Finishing.{laterKey}
+use Rattle.window.specs.Finishing.{responseOf, shifted, movedDown, laterKey, countedUnfinished, countedWorst, shiftedFrom, OneFinished}
 
 -- three tests in a row: the last one counts where the others pass
 pub last-decides : (a b x : Bool) {f : Bool} → f ≡ (a && b) → f ≡ true → x ≡ (a && (b && x))
@@ -37,3 +37,21 @@ pub shifted-more : (s : Server) (d : ℕ) {u : Server} → u ≡ record { jobs =
     → _≡_ {A = Server} (record { jobs = set (u .jobs) d (slotOf s (d + 1)) }) (record { jobs = replaced (λ (i : ℕ). slotOf s (suc i)) (s .jobs) (d + 1) })
 unfolding replaced
 shifted-more s d e = rw (add-one d, e)
+
+-- the window where more than its oldest is pending, and where not
+pub shifted-where : (s : Server) (n : ℕ) {r : Server} → 1 < n → r ≡ shifted s → r ≡ shiftedFrom s n
+shifted-where s n h e = rw (lt-ltb 1 n h) e
+
+pub kept-where : (s : Server) (n : ℕ) → n ≤ 1 → s ≡ shiftedFrom s n
+kept-where s n h = rw (le-ltb 1 n h)
+
+-- one server job that is complete, from what its parts come to
+pub finished-one : (now i next period step : ℕ) (s : Server) (left first count unfinished worst : List ℕ) {response : ℕ} {r : Server}
+    {left′ first′ count′ unfinished′ worst′ : List ℕ} → response ≡ responseOf now next (getD count i 0) ((slotOf s 0) .behind) period
+    → r ≡ shiftedFrom s (getD count i 0)
+    → (unfinished′ ≡ countedUnfinished unfinished i ((slotOf s 0) .linked)) × (worst′ ≡ countedWorst worst i ((slotOf s 0) .linked) response)
+    → (left′ ≡ movedDown left (i * window) (getD count i 0))
+    × ((first′ ≡ set first i (laterKey (getD count i 0) (getD first i 0) step)) × (count′ ≡ set count i (getD count i 0 - 1)))
+    → OneFinished now i next period step s left first count unfinished worst r left′ first′ count′ unfinished′ worst′
+finished-one now i next period step s left first count unfinished worst e f g h =
+    (f, (h .0, (h .1 .0, (h .1 .1, (g .0, g .1 ∙ ap (λ (x : ℕ). countedWorst worst i ((slotOf s 0) .linked) x) e)))))

@@ -5,7 +5,9 @@ use table::Table;
 ghost use mathlib.Core.Path.{_≡_};
 ghost use Prim.Native.Nat.{_+_, _*_, _-_, _≤_, _<_, max};
 ghost use lib.ListN.{getD, set};
+ghost use Rattle.schedule.specs.Limits as Limits;
 ghost use Rattle.window.specs.Entries.{places, window, slots};
+ghost use Rattle.window.specs.Choosing.{placeOf};
 ghost use Rattle.window.specs.Finishing as Mirror;
 
 // Whether the oldest server job at place i is complete.
@@ -110,4 +112,38 @@ pub fn count_finish(
         worst[i] = larger(worst[i], response);
         unfinished[i] = one_less(unfinished[i]);
     }
+}
+
+// The server at place i, whose oldest server job is complete at t: its window without that one, and the numbers beside it. (A window that
+// becomes empty is not shifted.)
+pub fn finish_one<'a>(
+    s: Server,
+    left: &mut [u16; Table::SLOTS],
+    first: &mut [u32; Table::SERVERS],
+    count: &mut [u8; Table::SERVERS],
+    unfinished: &mut [u8; Table::SERVERS],
+    worst: &mut [u32; Table::SERVERS],
+    next: &'a [u32; Table::SERVERS],
+    period: &'a [u32; Table::SERVERS],
+    step: &'a [u32; Table::SERVERS],
+    i: usize,
+    t: u32,
+) -> Server
+    requires { ⌜ (i < places) × (0 < getD (now count) i 0) × (getD (now count) i 0 ≤ window) ⌝ }
+    ensures { λ r. ⌜ Mirror.OneFinished t i (getD (now (next .entry)) i 0) (getD (now (period .entry)) i 0) (getD (now (step .entry)) i 0) s (now (left .entry)) (now (first .entry)) (now (count .entry)) (now (unfinished .entry)) (now (worst .entry)) r (now (left .exit)) (now (first .exit)) (now (count .exit)) (now (unfinished .exit)) (now (worst .exit)) ⌝ }
+{
+    let oldest = s.jobs[0];
+    let n = count[i];
+    let response = response_of(t, next[i], n, oldest.behind, period[i]);
+    count_finish(&mut *unfinished, &mut *worst, i, oldest.linked, response);
+    leave(&mut *left, &mut *first, &mut *count, i, step[i]);
+    if 1 < n { shifted(s) } else { s }
+}
+
+// The place of the r-th that ran.
+pub fn place_of(run: &[u32; Table::RUNNING], r: usize) -> usize
+    requires { ⌜ r < Limits.processors .to ⌝ }
+    ensures { λ k. ⌜ k ≡ placeOf (getD (now (run .entry)) r 0) ⌝ }
+{
+    (run[r] % Table::ALL_NODES_TO) as usize
 }

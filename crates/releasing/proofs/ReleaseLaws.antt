@@ -13,8 +13,10 @@ use Rattle.numbers.specs.Masks.{width, bit, without, lowest}
 use Rattle.numbers.proofs.Cases.{by-test}
 use Rattle.numbers.proofs.MaskLaws.{no-bit, bit-without, lowest-set, lowest-below}
 use Rattle.schedule.proofs.Tests.{either-way}
-use Rattle.window.specs.Entries.{places, window}
-use Rattle.window.specs.Releasing.{earliest, fullAt, oneMore, enteredFirst, countedUnlinked, allFewer}
+use Rattle.table.specs.declared.Pending.{Pending}
+use Rattle.table.specs.declared.Server.{Server}
+use Rattle.window.specs.Entries.{places, window, further}
+use Rattle.window.specs.Releasing.{earliest, fullAt, allFewer, linkedNow, newKey, pushed, oneMore, enteredLeft, enteredFirst, countedUnlinked, OneReleased}
 use Rattle.window.proofs.LoopLaws.{all-missed, all-true, all-same}
 
 -- one instant more
@@ -87,3 +89,21 @@ module _ (m p : ℕ) (some : m ≡ 0 → ⊥) (fits : m < 2 ^ width) (e : p ≡ 
 
   pub low-set : bit m p ≡ true
   low-set = ap (bit m) e ∙ lowest-set m (lowest-below m (omega arith) fits)
+
+-- one release, from what its parts come to
+pub released-one : (t i after budget lead period : ℕ) (before : List ℕ) (s : Server) (left first count unfinished unlinked next : List ℕ) {due : Bool} {p : Pending}
+    {key : ℕ} {r : Server} {left′ first′ count′ unfinished′ unlinked′ next′ : List ℕ} → due ≡ allFewer before after (getD unlinked i 0)
+    → p ≡ linkedNow due (getD unlinked i 0) → key ≡ newKey t lead → r ≡ pushed s (getD count i 0) p
+    → (left′ ≡ enteredLeft left i (getD count i 0) budget) × ((first′ ≡ enteredFirst first i (getD count i 0) key) × (count′ ≡ set count i (getD count i 0 + 1)))
+    → (unfinished′ ≡ set unfinished i (oneMore (getD unfinished i 0))) × ((unlinked′ ≡ countedUnlinked unlinked i due) × (next′ ≡ set next i (further (getD next i 0) period)))
+    → OneReleased t i after budget lead period before s left first count unfinished unlinked next r left′ first′ count′ unfinished′ unlinked′ next′
+released-one t i after budget lead period before s left first count unfinished unlinked next d e k f g h = (
+  f ∙ ap (λ (q : Pending). pushed s (getD count i 0) q) (e ∙ ap (λ (b : Bool). linkedNow b (getD unlinked i 0)) d),
+  (
+    g .0,
+    (
+      g .1 .0 ∙ ap (λ (q : ℕ). enteredFirst first i (getD count i 0) q) k,
+      (g .1 .1, (h .0, (h .1 .0 ∙ ap (λ (b : Bool). countedUnlinked unlinked i b) d, h .1 .1))),
+    ),
+  ),
+)

@@ -1,4 +1,6 @@
 // A server job more at a place: in its window, and in the numbers beside it.
+use crate::due::all_fewer;
+use crate::due::linked_now;
 use table::Pending;
 use table::Server;
 use table::Table;
@@ -87,4 +89,41 @@ pub fn count_release(
         unlinked[i] = one_more(unlinked[i]);
     }
     next[i] = numbers::further(next[i], period);
+}
+
+// The server at place i releases a server job at t and links it, where the next job is due: its window after that, and the numbers beside it.
+// `earlier` are the unfinished jobs before the releases of t.
+pub fn release_one<'a>(
+    s: Server,
+    left: &mut [u16; Table::SLOTS],
+    first: &mut [u32; Table::SERVERS],
+    count: &mut [u8; Table::SERVERS],
+    unfinished: &mut [u8; Table::SERVERS],
+    unlinked: &mut [u8; Table::SERVERS],
+    next: &mut [u32; Table::SERVERS],
+    earlier: &'a [u8; Table::SERVERS],
+    after: &'a [u32; Table::SERVERS],
+    budget: &'a [u16; Table::SERVERS],
+    lead: &'a [u32; Table::SERVERS],
+    period: &'a [u32; Table::SERVERS],
+    i: usize,
+    t: u32,
+) -> Server
+    requires { ⌜ (i < places) × (getD (now count) i 0 < window) ⌝ }
+    ensures { λ r. ⌜ Mirror.OneReleased t i (getD (now (after .entry)) i 0) (getD (now (budget .entry)) i 0) (getD (now (lead .entry)) i 0) (getD (now (period .entry)) i 0) (now (earlier .entry)) s (now (left .entry)) (now (first .entry)) (now (count .entry)) (now (unfinished .entry)) (now (unlinked .entry)) (now (next .entry)) r (now (left .exit)) (now (first .exit)) (now (count .exit)) (now (unfinished .exit)) (now (unlinked .exit)) (now (next .exit)) ⌝ }
+{
+    let due = all_fewer(earlier, after[i], unlinked[i]);
+    let p = linked_now(due, unlinked[i]);
+    let n = count[i];
+    let key = new_key(t, lead[i]);
+    enter(&mut *left, &mut *first, &mut *count, i, budget[i], key);
+    count_release(
+        &mut *unfinished,
+        &mut *unlinked,
+        &mut *next,
+        i,
+        due,
+        period[i],
+    );
+    pushed(s, n, p)
 }

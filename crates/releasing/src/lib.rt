@@ -10,6 +10,7 @@ pub use entering::count_release;
 pub use entering::enter;
 pub use entering::new_key;
 pub use entering::pushed;
+pub use entering::release_one;
 pub use instants::any_full;
 pub use instants::earliest;
 pub use instants::releases;

@@ -4,7 +4,8 @@ use table::Table;
 ghost use mathlib.Core.Path.{_≡_};
 ghost use Prim.Native.Nat.{_-_, _%_, _≤_, min};
 ghost use Rattle.schedule.specs.Limits as Limits;
-ghost use Rattle.window.specs.Entries.{slots};
+ghost use Rattle.window.specs.Entries.{places, slots};
+ghost use Rattle.window.specs.Choosing as Choosing;
 ghost use Rattle.window.specs.Spending as Mirror;
 
 pub fn sooner(a: u32, b: u32) -> u32
@@ -75,4 +76,35 @@ pub fn spend(left: &mut [u16; Table::SLOTS], at: &[u16; Table::RUNNING], m: usiz
         left[k] = less(left[k], d);
         r += 1;
     }
+}
+
+// How many run in a span, and how many ticks it has.
+pub struct Span {
+    pub ran: usize,
+    pub ticks: u32,
+}
+
+// The span from t on: what runs is put into `run`, and each of them uses its ticks.
+pub fn spend_span<'a>(
+    left: &mut [u16; Table::SLOTS],
+    run: &mut [u32; Table::RUNNING],
+    first: &'a [u32; Table::SERVERS],
+    count: &'a [u8; Table::SERVERS],
+    level: &'a [u8; Table::SERVERS],
+    step: &'a [u32; Table::SERVERS],
+    n: usize,
+    p: usize,
+    t: u32,
+    release: u32,
+    boundary: u32,
+    asked: u32,
+) -> Span
+    requires { ⌜ (n ≤ places) × (p ≤ Limits.processors .to) ⌝ }
+    ensures { λ r. ⌜ Mirror.Spanned (Choosing.picks (now (first .entry)) (now (count .entry)) (now (level .entry)) (now (step .entry)) n (now (run .entry)) Choosing.noAt p) (now (left .entry)) (Mirror.ticksTo t release boundary asked) (r .ran) (r .ticks) (now (run .exit)) (now (left .exit)) ⌝ }
+{
+    let mut at = [0u16; Table::RUNNING];
+    let ran = choosing::choose(&mut *run, &mut at, first, count, level, step, n, p);
+    let ticks = least_left(&*left, &at, ran, ticks_to(t, release, boundary, asked));
+    spend(&mut *left, &at, ran, ticks);
+    Span { ran, ticks }
 }

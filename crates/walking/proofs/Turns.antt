@@ -2,7 +2,8 @@
 use mathlib.Core.Path.{_≡_, refl, sym, _∙_}
 use mathlib.Core.Bool.{Bool, true, false, _&&_}
 use mathlib.Core.List.{List}
-use Prim.Native.Nat.{ℕ, _+_, _*_, _-_, _≤_, _<_}
+use Prim.Native.Nat.{ℕ, _+_, _*_, _%_, _≤_, _<_}
+use native.Mathlib.Nat.{mod-lt}
 use native.Mathlib.Numerals.{add-one}
 use native.Mathlib.Omega.{arith}
 use lib.Dec.{leb, ltb, eqb}
@@ -10,20 +11,20 @@ use lib.ListN.{getD, set}
 use borrow.Author.Tests.{ltb-true, leb-true, lt-ltb, le-ltb}
 use Rattle.schedule.specs.Limits as Limits
 use Rattle.schedule.proofs.Tests.{and-l, and-r, T-true, true-T}
-use Rattle.table.specs.declared.Pending.{Pending}
 use Rattle.table.specs.declared.Server.{Server}
 use Rattle.table.specs.declared.State.{State}
 use Rattle.table.specs.declared.Kept.{Kept}
 use Rattle.window.specs.declared.Plan.{Plan}
-use Rattle.window.specs.Entries.{window, slotOf, serverAt, countAt, firstAt, unfinishedAt, unlinkedAt, nextAt, further, budgetAt, afterAt, periodAt, stepAt, leadAt, nodesOf}
+use Rattle.window.specs.Entries.{places, window, serverAt, nextAt, budgetAt, afterAt, periodAt, stepAt, leadAt, nodesOf}
 use Rattle.window.specs.Loops.{replaced, inTurn}
-use Rattle.window.specs.Releasing.{earliest, releasesAt, allFewer, linkedNow, newKey, pushed, oneMore, enteredLeft, enteredFirst, countedUnlinked, releaseOne, released}
-use Rattle.window.specs.Choosing.{Picked, picks, noRun, noAt, chosenBy, placeOf}
-use Rattle.window.specs.Spending.{ticksTo, leastLeft, spent}
-use Rattle.window.specs.Finishing.{doneAt, responseOf, shifted, shiftedAt, movedDown, laterKey, countedUnfinished, countedWorst, finishAt}
+use Rattle.window.specs.Releasing.{earliest, releasesAt, OneReleased, releaseOne, released}
+use Rattle.window.specs.Choosing.{picks, noRun, noAt, chosenBy, placeOf}
+use Rattle.window.specs.Spending.{ticksTo, Spanned}
+use Rattle.window.specs.Finishing.{doneAt, OneFinished, finishAt}
 use Rattle.window.specs.Comparing.{keptLeft, keep}
 use Rattle.window.specs.Working.{withLeft, spanOf, worked}
 use Rattle.window.proofs.Fewer.{picks-most}
+use Rattle.walking.proofs.Bounds.{Span, span-within}
 
 -- the state that stands in the walk's locals
 abbrev pub stateOf : List Server → (left first count unfinished unlinked worst next : List ℕ) → State
@@ -53,13 +54,13 @@ module _ (plan : Plan) (t : ℕ) (before : List ℕ) (st : State) (i : ℕ) {ser
       → unfinished ≡ st .unfinished → unlinked ≡ st .unlinked → next ≡ st .next → stateOf servers left first count unfinished unlinked (st .worst) next ≡ releaseOne plan t before st i
   releases-none e a b c d f g h = rw (e, a, b, c, d, f, g, h)
 
-  pub releases-one : releasesAt (st .next) (st .count) i t ≡ true → {due : Bool} {p : Pending} {s : Server} {key : ℕ}
-      → due ≡ allFewer before (afterAt plan i) (unlinkedAt st i) → p ≡ linkedNow due (unlinkedAt st i) → s ≡ pushed (serverAt st i) (countAt st i) p
-      → key ≡ newKey t (leadAt plan i) → servers ≡ set (st .servers) i s → left ≡ enteredLeft (st .left) i (countAt st i) (budgetAt plan i)
-      → first ≡ enteredFirst (st .first) i (countAt st i) key → count ≡ set (st .count) i (countAt st i + 1)
-      → unfinished ≡ set (st .unfinished) i (oneMore (unfinishedAt st i)) → unlinked ≡ countedUnlinked (st .unlinked) i due
-      → next ≡ set (st .next) i (further (nextAt st i) (periodAt plan i)) → stateOf servers left first count unfinished unlinked (st .worst) next ≡ releaseOne plan t before st i
-  releases-one e du pe se ke a b c d f g h = rw (a, b, c, d, f, g, h, se, pe, ke, du, e)
+  pub releases-one : releasesAt (st .next) (st .count) i t ≡ true → {s : Server} {left′ first′ count′ unfinished′ unlinked′ next′ : List ℕ}
+      → OneReleased t i (afterAt plan i) (budgetAt plan i) (leadAt plan i) (periodAt plan i) before (serverAt st i) (st .left) (st .first) (st .count)
+      (st .unfinished) (st .unlinked) (st .next) s left′ first′ count′ unfinished′ unlinked′ next′ → servers ≡ set (st .servers) i s → left ≡ left′
+      → first ≡ first′ → count ≡ count′ → unfinished ≡ unfinished′ → unlinked ≡ unlinked′ → next ≡ next′
+      → stateOf servers left first count unfinished unlinked (st .worst) next ≡ releaseOne plan t before st i
+  releases-one e o a b c d f g h =
+      rw (a, b, c, d, f, g, h, o .0, o .1 .0, o .1 .1 .0, o .1 .1 .1 .0, o .1 .1 .1 .1 .0, o .1 .1 .1 .1 .1 .0, o .1 .1 .1 .1 .1 .1, e)
 
 pub room-for-one : (next count : List ℕ) (i t : ℕ) {x : Bool} → x ≡ releasesAt next count i t → x ≡ true → getD count i 0 < window
 room-for-one next count i t e h = ltb-true (getD count i 0) window (T-true (and-r (eqb (getD next i 0) t) (ltb (getD count i 0) window) (true-T _ (sym e ∙ h))))
@@ -69,28 +70,18 @@ pub releases-all : (plan : Plan) (t n i : ℕ) (st : State) → n ≡ nodesOf pl
 unfolding released
 releases-all plan t n i st same e h l = let g : i ≡ nodesOf plan = omega arith in rw g at e
 
--- the window at i is shifted where more than its oldest is pending
-module _ (st : State) (i : ℕ) where
-  pub windows-shifted : {s : Server} → 1 < countAt st i → s ≡ shifted (serverAt st i) → {u : List Server} → u ≡ set (st .servers) i s
-      → u ≡ shiftedAt (st .servers) i (countAt st i)
-  windows-shifted h e a = rw (lt-ltb 1 (countAt st i) h, ← e) a
-
-  pub windows-kept : countAt st i ≤ 1 → {u : List Server} → u ≡ st .servers → u ≡ shiftedAt (st .servers) i (countAt st i)
-  windows-kept h a = rw (le-ltb 1 (countAt st i) h) a
-
 -- the turn of the server at i, of which a server job ran up to `now`
 module _ (plan : Plan) (now : ℕ) (st : State) (i : ℕ) {servers : List Server} {left first count unfinished worst : List ℕ} where
   pub finishes-none : {x : Bool} → x ≡ doneAt (st .left) (st .count) i → x ≡ false → servers ≡ st .servers → left ≡ st .left → first ≡ st .first
       → count ≡ st .count → unfinished ≡ st .unfinished → worst ≡ st .worst → stateOf servers left first count unfinished (st .unlinked) worst (st .next) ≡ finishAt plan now st i
   finishes-none x e a b c d f g = rw (sym x ∙ e, a, b, c, d, f, g)
 
-  pub finishes-one : {x : Bool} → x ≡ doneAt (st .left) (st .count) i → x ≡ true → {response : ℕ}
-      → response ≡ responseOf now (nextAt st i) (countAt st i) ((slotOf (serverAt st i) 0) .behind) (periodAt plan i)
-      → servers ≡ shiftedAt (st .servers) i (countAt st i) → left ≡ movedDown (st .left) (i * window) (countAt st i)
-      → first ≡ set (st .first) i (laterKey (countAt st i) (firstAt st i) (stepAt plan i)) → count ≡ set (st .count) i (countAt st i - 1)
-      → unfinished ≡ countedUnfinished (st .unfinished) i ((slotOf (serverAt st i) 0) .linked)
-      → worst ≡ countedWorst (st .worst) i ((slotOf (serverAt st i) 0) .linked) response → stateOf servers left first count unfinished (st .unlinked) worst (st .next) ≡ finishAt plan now st i
-  finishes-one x e re a b c d f g = rw (a, b, c, d, f, g, re, sym x ∙ e)
+  pub finishes-one : {x : Bool} → x ≡ doneAt (st .left) (st .count) i → x ≡ true → {s : Server} {left′ first′ count′ unfinished′ worst′ : List ℕ}
+      → OneFinished now i (nextAt st i) (periodAt plan i) (stepAt plan i) (serverAt st i) (st .left) (st .first) (st .count) (st .unfinished) (st .worst) s
+      left′ first′ count′ unfinished′ worst′ → servers ≡ set (st .servers) i s → left ≡ left′ → first ≡ first′ → count ≡ count′
+      → unfinished ≡ unfinished′ → worst ≡ worst′ → stateOf servers left first count unfinished (st .unlinked) worst (st .next) ≡ finishAt plan now st i
+  finishes-one x e o a b c d f g =
+      rw (a, b, c, d, f, g, o .0, o .1 .0, o .1 .1 .0, o .1 .1 .1 .0, o .1 .1 .1 .1 .0, o .1 .1 .1 .1 .1, sym x ∙ e)
 
 pub some-done : (left count : List ℕ) (i : ℕ) {x : Bool} → x ≡ doneAt left count i → x ≡ true → (0 < getD count i 0) × (getD count i 0 ≤ window)
 some-done left count i e h =
@@ -102,29 +93,37 @@ some-done left count i e h =
     )
 
 -- a span's choice, and its work
-module _ (plan : Plan) (t boundary asked n m release : ℕ) (run at : List ℕ) (a : State) (same : n ≡ nodesOf plan)
-    (picked : Picked (picks (a .first) (a .count) (plan .level) (plan .step) n noRun noAt (plan .processors)) m run at) (r : release ≡ earliest (a .next) n) where
-  c : Picked (chosenBy plan (a .first) (a .count)) m run at
-  c = rw same at picked
+module _ (plan : Plan) (t boundary asked n release : ℕ) (a : State) (same : n ≡ nodesOf plan) {m d : ℕ} {run left : List ℕ}
+    (spanned : Spanned (picks (a .first) (a .count) (plan .level) (plan .step) n noRun noAt (plan .processors)) (a .left) (ticksTo t release boundary asked) m d run
+    left) (r : release ≡ earliest (a .next) n) where
+  s : Spanned (chosenBy plan (a .first) (a .count)) (a .left) (ticksTo t release boundary asked) m d run left
+  s = rw same at spanned
 
-  pub span-is : (most d : ℕ) → most ≡ ticksTo t release boundary asked → d ≡ leastLeft (a .left) at most m → d ≡ spanOf plan t boundary asked a
+  pub span-is : d ≡ spanOf plan t boundary asked a
   unfolding spanOf
-  span-is most d e f =
+  span-is =
       let next : release ≡ earliest (a .next) (nodesOf plan) = rw same at r in
-      rw (← next, ← c .0, ← c .1 .1, ← e) f
+      rw (← next) (s .1 .1 .0)
 
   pub few-picked : plan .processors ≤ Limits.processors .to → m ≤ Limits.processors .to
   few-picked h =
       let most = picks-most (a .first) (a .count) (plan .level) (plan .step) n noRun noAt (plan .processors) in
-      omega (arith, picked .0)
+      omega (arith, spanned .0)
 
-  pub worked-all : (d k : ℕ) (left : List ℕ) {later : State} → left ≡ spent (a .left) at d m
+  pub span-ends : t < boundary → Span t boundary d
+  span-ends h = span-within t release boundary asked (a .left) _ _ h refl (spanned .1 .1 .0)
+
+  pub worked-all : (k : ℕ) {later : State}
       → later ≡ inTurn (λ (u : State) (r : ℕ). finishAt plan (t + d) u (placeOf (getD run r 0))) (withLeft a left) k → k ≤ m → m ≤ k
       → later ≡ worked plan t d a
   unfolding worked
-  worked-all d k left e f h l =
+  worked-all k f h l =
       let g : k ≡ m = omega arith in
-      rw (← c .0, ← c .1 .0, ← c .1 .1, ← e, ← g) f
+      rw (← s .1 .1 .1, ← s .1 .0, ← s .0, ← g) f
+
+-- the place of one that ran
+pub place-inside : (key : ℕ) {k : ℕ} → k ≡ placeOf key → k < places
+place-inside key e = let h : key % places < places = mod-lt key (omega arith) in rw e h
 
 -- what is kept of the first j windows
 abbrev pub keptTo : State → Kept → ℕ → Kept

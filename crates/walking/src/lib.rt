@@ -116,22 +116,22 @@ pub fn walk_to(
             let mut i: usize = 0;
             while i < n {
                 if releasing::releases(&next, &count, i, t) {
-                    let due = releasing::all_fewer(&before, plan.after[i], unlinked[i]);
                     let s = servers[i];
-                    servers[i] = releasing::pushed(
+                    servers[i] = releasing::release_one(
                         s,
-                        count[i],
-                        releasing::linked_now(due, unlinked[i]),
-                    );
-                    let key = releasing::new_key(t, plan.lead[i]);
-                    releasing::enter(&mut left, &mut first, &mut count, i, plan.budget[i], key);
-                    releasing::count_release(
+                        &mut left,
+                        &mut first,
+                        &mut count,
                         &mut unfinished,
                         &mut unlinked,
                         &mut next,
+                        &before,
+                        &plan.after,
+                        &plan.budget,
+                        &plan.lead,
+                        &plan.period,
                         i,
-                        due,
-                        plan.period[i],
+                        t,
                     );
                 }
                 i += 1;
@@ -142,43 +142,41 @@ pub fn walk_to(
             return ended(How::Reached, t, servers, first, count, worst);
         }
         let mut run = [Table::NO_KEY; Table::RUNNING];
-        let mut at = [0u16; Table::RUNNING];
-        let m = choosing::choose(
+        let span = spending::spend_span(
+            &mut left,
             &mut run,
-            &mut at,
             &first,
             &count,
             &plan.level,
             &plan.step,
             n,
             p,
+            t,
+            release,
+            boundary,
+            asked,
         );
-        let d = spending::least_left(
-            &left,
-            &at,
-            m,
-            spending::ticks_to(t, release, boundary, asked),
-        );
-        spending::spend(&mut left, &at, m, d);
+        let m = span.ran;
+        let d = span.ticks;
         t += d;
         let mut r: usize = 0;
         while r < m {
-            let i = (run[r] % Table::ALL_NODES_TO) as usize;
+            let i = finishing::place_of(&run, r);
             if finishing::is_done(&left, &count, i) {
                 let s = servers[i];
-                let oldest = s.jobs[0];
-                let response = finishing::response_of(
+                servers[i] = finishing::finish_one(
+                    s,
+                    &mut left,
+                    &mut first,
+                    &mut count,
+                    &mut unfinished,
+                    &mut worst,
+                    &next,
+                    &plan.period,
+                    &plan.step,
+                    i,
                     t,
-                    next[i],
-                    count[i],
-                    oldest.behind,
-                    plan.period[i],
                 );
-                finishing::count_finish(&mut unfinished, &mut worst, i, oldest.linked, response);
-                if 1 < count[i] {
-                    servers[i] = finishing::shifted(s);
-                }
-                finishing::leave(&mut left, &mut first, &mut count, i, plan.step[i]);
             }
             r += 1;
         }

@@ -17,7 +17,7 @@ use Rattle.table.specs.declared.Pending.{Pending}
 use Rattle.table.specs.declared.State.{State}
 use Rattle.window.specs.declared.Plan.{Plan}
 use Rattle.window.specs.Entries.{places, window, further, noJob, noServer, slotOf, serverAt, countAt, firstAt, unfinishedAt, worstAt, nextAt, leftAt, periodAt, stepAt}
-use Rattle.window.specs.Finishing.{responseOf, shifted, laterKey, finishedWith}
+use Rattle.window.specs.Finishing.{responseOf, shifted, shiftedFrom, laterKey, finishedWith}
 use Rattle.window.proofs.Relation.{Slot, Row, Sized}
 use Rattle.window.proofs.Loops.{replaced-length, replaced-in, SameAt}
 use Rattle.window.proofs.Moving.{if-length, if-other, if-own, moved-down-length, moved-down-in, moved-down-other}
@@ -46,7 +46,7 @@ module _ (plan : Plan) (now : ℕ) (st : State) (i : ℕ) (sized : Sized st) (in
   drop-first = getD-set-same (st .first) i (laterKey n (firstAt st i) (stepAt plan i)) 0 (omega (arith, sized .first))
 
   drop-server : serverAt next i ≡ cond (ltb 1 n) (shifted (serverAt st i)) (serverAt st i)
-  drop-server = if-own (st .servers) i (shifted (serverAt st i)) noServer (ltb 1 n) (omega (arith, sized .servers))
+  drop-server = getD-set-same (st .servers) i (shiftedFrom (serverAt st i) n) noServer (omega (arith, sized .servers))
 
   drop-unfinished : unfinishedAt next i ≡ unfinishedAt st i - one? (oldest .linked)
   drop-unfinished =
@@ -62,7 +62,7 @@ module _ (plan : Plan) (now : ℕ) (st : State) (i : ℕ) (sized : Sized st) (in
   pub drop-elsewhere : (j : ℕ) → n ≤ window → (j ≡ i → ⊥) → SameAt j st next
   drop-elsewhere j small h =
       record {
-        server = if-other (st .servers) i (shifted (serverAt st i)) noServer (ltb 1 n) j h;
+        server = getD-set-other (st .servers) i j (shiftedFrom (serverAt st i) n) noServer h;
         count = getD-set-other (st .count) i j (n - 1) 0 h;
         first = getD-set-other (st .first) i j (laterKey n (firstAt st i) (stepAt plan i)) 0 h;
         unfinished = if-other (st .unfinished) i (unfinishedAt st i - 1) 0 (oldest .linked) j h;
@@ -75,10 +75,10 @@ module _ (plan : Plan) (now : ℕ) (st : State) (i : ℕ) (sized : Sized st) (in
   pub drop-sized : Sized next
   drop-sized =
       record {
-        servers = if-length (st .servers) i (shifted (serverAt st i)) noServer (ltb 1 n) ∙ sized .servers;
+        servers = length-set (st .servers) i (shiftedFrom (serverAt st i) n) ∙ sized .servers;
         jobs = λ j h.
             by-same j i (λ e. rw (e, drop-server) (own (ltb 1 n)))
-            (λ z. rw (if-other (st .servers) i (shifted (serverAt st i)) noServer (ltb 1 n) j z) (sized .jobs j h));
+            (λ z. rw (getD-set-other (st .servers) i j (shiftedFrom (serverAt st i) n) noServer z) (sized .jobs j h));
         left = moved-down-length (st .left) (i * window) n ∙ sized .left;
         first = length-set (st .first) i (laterKey n (firstAt st i) (stepAt plan i)) ∙ sized .first;
         count = length-set (st .count) i (n - 1) ∙ sized .count;

@@ -1,5 +1,6 @@
 -- A server job whose budget is used up is dropped, and its window shifted: what the functions of `finishing` compute, and the loop of the walk over
 -- the server jobs that ran.
+use mathlib.Core.Path.{_≡_}
 use mathlib.Core.Bool.{Bool, _&&_, cond}
 use mathlib.Core.List.{List}
 use Prim.Native.Nat.{ℕ, suc, _+_, _*_, _-_, min, max}
@@ -40,9 +41,25 @@ countedUnfinished unfinished i linked = cond linked (set unfinished i (getD unfi
 abbrev pub countedWorst : List ℕ → ℕ → Bool → ℕ → List ℕ
 countedWorst worst i linked response = cond linked (set worst i (max (getD worst i 0) response)) worst
 
--- the windows with that at i shifted, where more than its oldest is pending
+-- the window without its oldest, where more than that is pending
+abbrev pub shiftedFrom : Server → ℕ → Server
+shiftedFrom s n = cond (ltb 1 n) (shifted s) s
+
+-- one server job that is complete at `now`, at place i: the window and the numbers, before and after. `next`, `period` and `step` are those
+-- of i
+abbrev pub OneFinished : (now i next period step : ℕ) → Server → (left first count unfinished worst : List ℕ) → Server
+    → (left′ first′ count′ unfinished′ worst′ : List ℕ) → Type 0
+OneFinished now i next period step s left first count unfinished worst s′ left′ first′ count′ unfinished′ worst′ =
+    (s′ ≡ shiftedFrom s (getD count i 0))
+    × ((left′ ≡ movedDown left (i * window) (getD count i 0))
+    × ((first′ ≡ set first i (laterKey (getD count i 0) (getD first i 0) step))
+    × ((count′ ≡ set count i (getD count i 0 - 1))
+    × ((unfinished′ ≡ countedUnfinished unfinished i ((slotOf s 0) .linked))
+    × (worst′ ≡ countedWorst worst i ((slotOf s 0) .linked) (responseOf now next (getD count i 0) ((slotOf s 0) .behind) period))))))
+
+-- the windows with that at i shifted, of which n are pending
 abbrev pub shiftedAt : List Server → ℕ → ℕ → List Server
-shiftedAt servers i n = cond (ltb 1 n) (set servers i (shifted (getD servers i noServer))) servers
+shiftedAt servers i n = set servers i (shiftedFrom (getD servers i noServer) n)
 
 -- the server at i without its oldest pending job; a linked one finishes its job
 abbrev pub finishedWith : Plan → ℕ → State → ℕ → State

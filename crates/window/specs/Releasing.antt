@@ -1,4 +1,5 @@
 -- Release and link at an instant t: what the functions of `releasing` compute, and the loop of the walk over the servers.
+use mathlib.Core.Path.{_≡_}
 use mathlib.Core.Bool.{Bool, true, false, _&&_, _||_, not, cond}
 use mathlib.Core.List.{List}
 use Prim.Native.Nat.{ℕ, zero, suc, _+_, _*_, _-_, _^_, min}
@@ -57,6 +58,19 @@ enteredFirst first i n key = cond (eqb n 0) (set first i key) first
 
 abbrev pub countedUnlinked : List ℕ → ℕ → Bool → List ℕ
 countedUnlinked unlinked i due = cond due unlinked (set unlinked i (oneMore (getD unlinked i 0)))
+
+-- one release at place i: the window and the numbers, before and after. `after`, `budget`, `lead` and `period` are the plan's at i, and `before`
+-- the unfinished jobs before the releases of t
+abbrev pub OneReleased : (t i after budget lead period : ℕ) → (before : List ℕ) → Server → (left first count unfinished unlinked next : List ℕ)
+    → Server → (left′ first′ count′ unfinished′ unlinked′ next′ : List ℕ) → Type 0
+OneReleased t i after budget lead period before s left first count unfinished unlinked next s′ left′ first′ count′ unfinished′ unlinked′ next′ =
+    (s′ ≡ pushed s (getD count i 0) (linkedNow (allFewer before after (getD unlinked i 0)) (getD unlinked i 0)))
+    × ((left′ ≡ enteredLeft left i (getD count i 0) budget)
+    × ((first′ ≡ enteredFirst first i (getD count i 0) (newKey t lead))
+    × ((count′ ≡ set count i (getD count i 0 + 1))
+    × ((unfinished′ ≡ set unfinished i (oneMore (getD unfinished i 0)))
+    × ((unlinked′ ≡ countedUnlinked unlinked i (allFewer before after (getD unlinked i 0)))
+    × (next′ ≡ set next i (further (getD next i 0) period)))))))
 
 -- the next job at place i is due; `before` are the unfinished jobs before the releases of t
 abbrev pub dueAt : Plan → List ℕ → State → ℕ → Bool

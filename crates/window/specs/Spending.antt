@@ -1,10 +1,12 @@
 -- A span, and its ticks used by each server job that runs: what the functions of `spending` compute.
+use mathlib.Core.Path.{_≡_}
 use mathlib.Core.Bool.{_&&_, cond}
 use mathlib.Core.List.{List}
 use Prim.Native.Nat.{ℕ, zero, suc, _-_, _%_, min}
 use lib.Dec.{ltb}
 use lib.ListN.{getD, set}
 use Rattle.window.specs.Entries.{slots}
+use Rattle.window.specs.Choosing.{Picks}
 
 -- the first of three instants, and the ticks from t to it; at least 1
 abbrev pub firstOf : (release boundary asked : ℕ) → ℕ
@@ -35,3 +37,8 @@ lessBy x d = x - d
 unfoldable pub spent : (left at : List ℕ) → (d m : ℕ) → List ℕ
 spent left at d zero = left
 spent left at d (suc r) = set (spent left at d r) (placeAt at r) (lessBy (getD (spent left at d r) (placeAt at r) 0) d)
+
+-- a span of what is chosen, `most` ticks at most: how many run, its ticks, and the budgets left at its end
+abbrev pub Spanned : Picks → (left : List ℕ) → (most ran ticks : ℕ) → (run left′ : List ℕ) → Type 0
+Spanned c left most ran ticks run left′ =
+    (ran ≡ c .count) × ((run ≡ c .run) × ((ticks ≡ leastLeft left (c .at) most (c .count)) × (left′ ≡ spent left (c .at) ticks (c .count))))

@@ -13,8 +13,8 @@ use Rattle.window.specs.Releasing.{earliest}
 use Rattle.window.specs.declared.Walk.{Walk}
 use Rattle.window.specs.Walking.{walkFrom, walkOf}
 use Rattle.walking.proofs.Steps.{Differs, differs-windows, differs-numbers, differs-first, Passes, passes-boundary, passes-between, Goes, goes-released, goes-without, after, from-here, from-start}
-use Rattle.walking.proofs.Turns.{stateOf, same-locals, earliest-of, room-for-one, releases-all, few-picked, keeps-all}
-use Rattle.walking.proofs.Bounds.{not-past, Ahead, ahead-boundary, ahead-between, Span, span-within}
+use Rattle.walking.proofs.Turns.{stateOf, same-locals, earliest-of, room-for-one, releases-all, few-picked, span-ends, keeps-all}
+use Rattle.walking.proofs.Bounds.{not-past, Ahead, ahead-boundary, ahead-between, Span}
 use Rattle.walking.proofs.walk_to.Proof.Loops.{I₂, μ₂, I₃, μ₃, I₄, μ₄, I, μ}
 use Rattle.walking.proofs.walk_to.Tie as tie
 
@@ -34,10 +34,7 @@ abbrev pub Past-releases : Type 0
 Past-releases = tie.Joined6 I₂ μ₂ I₃ μ₃ I₄ μ₄ I μ
 
 abbrev pub Chosen : Type 0
-Chosen = tie.After-choose I₂ μ₂ I₃ μ₃ I₄ μ₄ I μ
-
-abbrev pub Spent : Type 0
-Spent = tie.After-spend I₂ μ₂ I₃ μ₃ I₄ μ₄ I μ
+Chosen = tie.After-spend-span I₂ μ₂ I₃ μ₃ I₄ μ₄ I μ
 
 abbrev pub Fresh : Type 0
 Fresh = tie.After-fresh I₂ μ₂ I₃ μ₃ I₄ μ₄ I μ
@@ -180,26 +177,28 @@ module _ (c : Past-releases) where
 abbrev pub released-of : Chosen → Past-releases
 released-of c = c .before .before .before .before .before .before .before .before .before
 
--- no more run than there are processors
-pub few : (c : Chosen) → c .choose .result ≤ Limits.processors .to
-few c =
-    let j = released-of c in
-    let i = j .before .before in
-    few-picked (plan i) (i .before .loop .t) (j .before .if1 .boundary) (asked i) (n i) _ (j .if6 .release) _ _ (now j) (all-places i) (c .choose .ensures)
-    (next-release j) (fresh-of i .before .before .pre .0)
+module _ (c : Chosen) where
+  abbrev pub now-at : ℕ
+  now-at = (released-of c) .before .before .before .loop .t
 
-abbrev pub chosen-of : Spent → Chosen
-chosen-of c = c .before .before .before .before .before .before .before
+  -- no more run than there are processors
+  pub few : c .spend-span .result .ran ≤ Limits.processors .to
+  few =
+      let j = released-of c in
+      let i = j .before .before in
+      few-picked (plan i) now-at (j .before .if1 .boundary) (asked i) (n i) (j .if6 .release) (now j) (all-places i) (c .spend-span .ensures) (next-release j)
+      (fresh-of i .before .before .pre .0)
 
-pub span : (c : Spent) → Span ((released-of (chosen-of c)) .before .before .before .loop .t) ((released-of (chosen-of c)) .before .if1 .boundary) (c .before .before .before .least-left .result)
-span c =
-    let j = released-of (chosen-of c) in
-    span-within _ (j .if6 .release) _ (asked (j .before .before)) _ _ _ (ahead (j .before) .later) (c .before .before .before .before .ticks-to .ensures)
-    (c .before .before .before .least-left .ensures)
+  pub span : Span now-at ((released-of c) .before .if1 .boundary) (c .spend-span .result .ticks)
+  span =
+      let j = released-of c in
+      let i = j .before .before in
+      span-ends (plan i) now-at (j .before .if1 .boundary) (asked i) (n i) (j .if6 .release) (now j) (all-places i) (c .spend-span .ensures) (next-release j)
+      (ahead (j .before) .later)
 
--- the end of the span is not past the last boundary
-pub end-within : (c : Spent) → (released-of (chosen-of c)) .before .before .before .loop .t + c .before .before .before .least-left .result ≤ last ((released-of (chosen-of c)) .before .before)
-end-within c =
-    let j = released-of (chosen-of c) in
-    let i = j .before .before in
-    not-past (origin i) (hyper i) (rounds i) _ _ _ (ahead (j .before) .boundary-is) (ahead (j .before) .round-most) (span c .within)
+  -- the end of the span is not past the last boundary
+  pub end-within : now-at + c .spend-span .result .ticks ≤ last ((released-of c) .before .before)
+  end-within =
+      let j = released-of c in
+      let i = j .before .before in
+      not-past (origin i) (hyper i) (rounds i) _ _ _ (ahead (j .before) .boundary-is) (ahead (j .before) .round-most) (span .within)
