@@ -14,7 +14,7 @@ use Rattle.writing.proofs.Counting.{digits-most}
 abbrev pub Small : ℕ → Type 0
 Small v = v < 10 ^ mostDigits
 
-line-short : (name : String) (v : ℕ) → Small v → length (answerLine name v) ≤ longestLine (bytes name)
+pub line-short : (name : String) (v : ℕ) → Small v → length (answerLine name v) ≤ longestLine (bytes name)
 unfolding answerLine
 line-short name v h =
     omega (

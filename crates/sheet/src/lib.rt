@@ -10,6 +10,8 @@ pub use exports::phalandrix_report;
 pub use exports::phalandrix_row;
 pub use exports::told;
 pub use figures::figures_of;
+pub use plans::Laid;
+pub use plans::planned;
 pub use reporting::put_settled;
 pub use reporting::report;
 pub use rowing::near;
