@@ -25,6 +25,13 @@ limits-on front left (done v q) = more (limitsFrom left q)
     more (refused r) = refl
     more (done vs r) = ap (λ (l : List ℕ). done l r) (sym (append-snoc front v vs))
 
+map-none : (x : Outcome (List ℕ)) → x ≡ mapOutcome (behind []) x
+map-none (refused r) = refl
+map-none (done vs p) = refl
+
+pub limits-all : (n : ℕ) (p : Place) → limitsFrom n p ≡ mapOutcome (behind []) (limitsFrom (n - 0) p)
+limits-all n p = let e : n - 0 ≡ n = omega arith in rw e (map-none (limitsFrom n p))
+
 -- the first g of n limits stand in l
 module _ (l : List ℕ) (n g : ℕ) (p : Place) where
   limits-step : g < n → mapOutcome (behind (take g l)) (limitsFrom (n - g) p)

@@ -21,7 +21,7 @@ use Rattle.asking.specs.declared.questions.Asked.the-variants as Asked
 use Rattle.asking.specs.declared.lengths.Lengths.{Lengths}
 use Rattle.asking.specs.Instants.{atEnd, instantBy, instantOf}
 use Rattle.asking.specs.Lengths.{isAt, isNumber, noLengths, lengthsOn, lengthsBy}
-use Rattle.asking.specs.Questions.{row, batch, salvage, fixes, rewrite, longestWord, wholly, isWord, rowAsked, rewriteAsked, outputAsked, textAskedBy, textQuestion, batchAsked, questionOf, asked, fitting, Told}
+use Rattle.asking.specs.Questions.{row, batch, salvage, fixes, rewrite, margin, longestWord, wholly, isWord, rowAsked, rewriteAsked, fileAsked, outputAsked, textAskedBy, textQuestion, batchAsked, questionOf, asked, fitting, Told}
 
 -- a word by what the scanner of a text found
 module _ (w s : List ℕ) (r : Found) (found : foundOf s r ≡ text w s) where
@@ -65,6 +65,10 @@ no-rewrite : isWord rewrite [] ≡ false
 unfolding text
 no-rewrite = refl
 
+no-margin : isWord margin [] ≡ false
+unfolding text
+no-margin = refl
+
 or-none : (b : Bool) → b ≡ (b || false)
 or-none true = refl
 or-none false = refl
@@ -104,7 +108,7 @@ module _ (room : ℕ) (l : longestWord ≤ room) where
 
   by-text : (w : List ℕ) (ts : List (List ℕ)) → textAskedBy (suc (length (w ∷ ts))) (fitting room w) (instantOf (getD (w ∷ ts) 1 [])) ≡ textQuestion w ts
   by-text w [] = by-output w
-  by-text w (t ∷ []) = ap (λ (b : Bool). cond b (rowAsked (instantOf t)) Asked.Usage) (in-its-room row no-row room (omega arith) w)
+  by-text w (t ∷ []) = rw (in-its-room row no-row room (omega arith) w, in-its-room margin no-margin room (omega arith) w)
   by-text w (t ∷ u ∷ rest) =
       let count : ℕ = suc (length (w ∷ t ∷ u ∷ rest)) in
       rw (ne-eqb count 2 (λ e. omega arith), ne-eqb count 3 (λ e. omega arith))

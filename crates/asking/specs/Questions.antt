@@ -33,6 +33,9 @@ fixes = bytes "fixes"
 abbrev pub rewrite : List ℕ
 rewrite = bytes "rewrite"
 
+abbrev pub margin : List ℕ
+margin = bytes "margin"
+
 abbrev pub longestWord : ℕ
 longestWord = length salvage
 
@@ -61,10 +64,14 @@ rewriteAsked w = cond (isWord rewrite w) (Asked.Answer Rewrite) Asked.Usage
 abbrev pub outputAsked : List ℕ → Asked
 outputAsked w = cond (isWord salvage w) Asked.Salvage (cond (isWord fixes w) Asked.Fixes (rewriteAsked w))
 
--- of one text: `salvage`, `fixes` or `rewrite`, that output; `row` and an instant, the row at it
+-- by a word that a file's name follows: `margin` asks for the margins against the limits in the file
+abbrev pub fileAsked : List ℕ → Asked
+fileAsked w = cond (isWord margin w) Asked.Margin Asked.Usage
+
+-- of one text: `salvage`, `fixes` or `rewrite`, that output; `row` and an instant, the row at it; `margin` and a file
 abbrev pub textQuestion : List ℕ → List (List ℕ) → Asked
 textQuestion w [] = outputAsked w
-textQuestion w (t ∷ []) = cond (isWord row w) (rowAsked (instantOf t)) Asked.Usage
+textQuestion w (t ∷ []) = cond (isWord row w) (rowAsked (instantOf t)) (fileAsked w)
 textQuestion w (t ∷ u ∷ rest) = Asked.Usage
 
 -- what the arguments behind the program's own name ask: none, the report; `batch` and any number of lengths, several tables; else what is asked
@@ -78,7 +85,7 @@ questionOf (w ∷ ts) = cond (isWord batch w) (cond (all? isNumber ts) Asked.Bat
 abbrev pub textAskedBy : ℕ → List ℕ → Instant → Asked
 textAskedBy count word instant =
     cond (eqb count 2) (outputAsked word)
-    (cond (eqb count 3) (cond (isWord row word) (rowAsked instant) Asked.Usage) Asked.Usage)
+    (cond (eqb count 3) (cond (isWord row word) (rowAsked instant) (fileAsked word)) Asked.Usage)
 
 abbrev pub asked : ℕ → List ℕ → Instant → Lengths → Asked
 asked count word instant lengths =

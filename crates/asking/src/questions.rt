@@ -1,4 +1,5 @@
 // The question that the arguments ask.
+use crate::files::file_asked;
 use crate::instants::Instant;
 use crate::lengths::Lengths;
 use crate::outputs::output_asked;
@@ -20,6 +21,8 @@ pub enum Asked {
     // what is left of a text, or the list of what was changed
     Salvage,
     Fixes,
+    // the margins against the limits in a file, which the second argument names
+    Margin,
     // several tables in one call; their lengths stand beside this
     Batch,
     Usage,
@@ -72,7 +75,7 @@ pub fn batch_asked(lengths: Lengths) -> Asked
     Asked::Batch
 }
 
-// Of one text: with a word alone, or with a word and an instant.
+// Of one text: with a word alone, with a word and an instant, or with a word and a file.
 pub fn text_asked_by(count: usize, word: &[u8], instant: Instant) -> Asked
     ensures { λ r. ⌜ r ≡ textAskedBy count (now (word .entry)) instant ⌝ }
 {
@@ -83,6 +86,7 @@ pub fn text_asked_by(count: usize, word: &[u8], instant: Instant) -> Asked
         if is_row(word) {
             return row_asked(instant);
         }
+        return file_asked(word);
     }
     Asked::Usage
 }

@@ -1,6 +1,7 @@
 // The program: a table on standard input; on standard output its report or, with `row T`, its row at instant T, or, with `rewrite`, the table
 // read and written again. With `batch` and lengths, tables end to end on standard input, and what is printed for each. With `salvage` the text
-// is mended, and what is left is printed; with `fixes` the list of what was changed.
+// is mended, and what is left is printed; with `fixes` the list of what was changed. With `margin FILE` the margins against the limits in the
+// file are printed.
 use asking::Asked;
 use asking::Instant;
 use asking::Lengths;
@@ -18,6 +19,7 @@ use inputs::take_tables;
 use libc::STDERR_FILENO;
 use libc::STDIN_FILENO;
 use libc::STDOUT_FILENO;
+use marginprints::put_margin_to;
 use printing::SLOT;
 use printing::SLOTS;
 use printing::put_answer_to;
@@ -27,7 +29,7 @@ use printouts::put_fixes_to;
 use printouts::put_left_to;
 use salvage::LIST_BYTES;
 use table::Table;
-ghost use Prim.Native.Nat.{_≤_};
+ghost use Prim.Native.Nat.{_≤_, _<_};
 ghost use lib.ListN.{length};
 ghost use Rattle.schedule.specs.Limits as Limits;
 
@@ -47,9 +49,12 @@ enum Line {
 fn print_usage() {
     io::write_all(
         STDERR_FILENO,
-        b"usage: phalandrix < TABLE          the report\n       phalandrix row T < TABLE    the row at instant T\n       phalandrix batch L1 .. Ln < TABLES    the reports of tables end to end, of these lengths\n       phalandrix rewrite < TABLE  the table, read and written again\n       phalandrix salvage < TEXT   the text mended\n       phalandrix fixes < TEXT     what was mended\n",
+        b"usage: phalandrix < TABLE          the report\n       phalandrix row T < TABLE    the row at instant T\n       phalandrix batch L1 .. Ln < TABLES    the reports of tables end to end, of these lengths\n       phalandrix rewrite < TABLE  the table, read and written again\n       phalandrix salvage < TEXT   the text mended\n       phalandrix fixes < TEXT     what was mended\n       phalandrix margin FILE < TABLE    the margins against the limits in FILE\n",
     );
 }
+
+// Room for a limit text and one byte more: what is kept of a longer one is enough to refuse it.
+const LIMITS_ROOM: usize = Table::LIMIT_BYTES_TO as usize + 1;
 
 // A short write is carried on; one that fails is told.
 fn print(bytes: &[u8]) {
@@ -162,6 +167,50 @@ fn print_output(o: Output) {
     }
 }
 
+// The margins of the table on standard input. Which text a refusal is of does not stand in what document 02 has printed: people are told.
+fn print_margin(limits: &[u8], m: usize)
+    requires { ⌜ (Limits.limitBytes .to < length (now limits)) × (m ≤ length (now limits)) ⌝ }
+{
+    let mut room = [0u8; SLOT];
+    let mut text = io::buffer();
+    match read_input(STDIN_FILENO, &mut room) {
+        Input::Failed => os::fail(b"standard input"),
+        Input::Bytes(n) => {
+            let printed = put_margin_to(&room, n, limits, m, &mut text);
+            if printed.in_limits {
+                io::write_all(STDERR_FILENO, b"phalandrix: this refusal is of the limit text\n");
+            }
+            let k = printed.length;
+            print(&text[..k]);
+        }
+    }
+}
+
+// The limits in a file, whose name is an argument. One that cannot be read is told, and nothing is printed.
+fn answer_margin(name: &[u8]) {
+    let mut limits = [0u8; LIMITS_ROOM];
+    let fd = os::open_read(name);
+    if fd < 0 {
+        return os::fail(name);
+    }
+    let input = read_input(fd, &mut limits);
+    match input {
+        Input::Failed => os::fail(name),
+        Input::Bytes(m) => print_margin(&limits, m),
+    }
+    libc::close(fd);
+}
+
+// A name that does not fit the room for a path names no file.
+fn margin_asked() {
+    let mut name = io::buffer();
+    let n = os::arg(2, &mut name);
+    if os::errno() == libc::ENAMETOOLONG {
+        return os::fail(b"the limits");
+    }
+    answer_margin(&name[..n])
+}
+
 fn print_refusal(r: Refusal) {
     let mut text = io::buffer();
     let n = writing::refusal_length(r);
@@ -205,6 +254,7 @@ fn main() {
         Asked::Batch => answer_batch(lengths),
         Asked::Salvage => print_output(Output::Text),
         Asked::Fixes => print_output(Output::Fixes),
+        Asked::Margin => margin_asked(),
         Asked::Usage => print_usage(),
         Asked::Unread => os::fail(b"/proc/self/cmdline"),
     }

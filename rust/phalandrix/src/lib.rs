@@ -32,6 +32,7 @@
 //! ```
 //!
 //! - `calls`: the plain calls;
+//! - `margins`: the report against the age limit of each graph;
 //! - `salvage`: a text that another editor spoiled, mended;
 //! - `refusal`: the refusals, with the list made from the C header;
 //! - `tables`: a table in memory, read and written;
@@ -40,6 +41,7 @@
 #![deny(unsafe_op_in_unsafe_fn, clippy::undocumented_unsafe_blocks, missing_docs)]
 
 mod calls;
+mod margins;
 mod refusal;
 mod reports;
 mod rows;
@@ -48,8 +50,9 @@ mod tables;
 mod text;
 
 pub use calls::{Answer, BatchAnswer, batch, report, row, shares};
+pub use margins::{MarginAnswer, MarginRefusal, Margins, margin, margins_of};
 pub use refusal::{
-    FIXES_BYTES, InTable, REPORT_BYTES, ROW_BYTES, Reason, Refusal, SALVAGE_BYTES, STACK_BYTES, TABLES,
+    FIXES_BYTES, InTable, MARGIN_BYTES, REPORT_BYTES, ROW_BYTES, Reason, Refusal, SALVAGE_BYTES, STACK_BYTES, TABLES,
     VERSION, WRITTEN_BYTES,
 };
 pub use reports::{Report, report_of};
