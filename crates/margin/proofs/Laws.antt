@@ -36,9 +36,9 @@ pub of-limits : (k t : ℕ) (fs buffer : List ℕ) (f : Refusal)
     → Answers (record { answer = Refused f; «in_limits» = true }) buffer buffer (onLimits k t fs (refused f))
 of-limits k t fs buffer f = record { call = refused-call buffer f; text = refl }
 
-pub of-text : (k t : ℕ) (fs vs before after : List ℕ) (p : Place) (a : Answer) → called a after ≡ callOf before (says (marginText k t fs vs))
-    → Answers (ofTableAnswer a) before after (onLimits k t fs (done vs p))
-of-text k t fs vs before after p a e = record { call = e; text = refl }
+pub of-text : (k t : ℕ) (fs vs before after : List ℕ) (a : Answer) (x : Outcome (List ℕ)) {p : Place} → x ≡ done vs p
+    → called a after ≡ callOf before (says (marginText k t fs vs)) → Answers (ofTableAnswer a) before after (onLimits k t fs x)
+of-text k t fs vs before after a x r e = answers-named (ap (onLimits k t fs) (sym r)) (record { call = e; text = refl })
 
 module _ (table limits before after : List ℕ) (r : MarginAnswer) (w : Answers r before after (marginOf table limits)) where
   pub true-margins : answerNumber (r .answer) ≡ 0 → TrueMargins table limits
@@ -55,5 +55,5 @@ module _ (before after : List ℕ) (m : Margin) (r : MarginAnswer) (t : Phalandr
         bytes = ap (λ (k : Call). k .buffer) (w .call);
       }
 
-  pub answered : t .number ≡ 0 → answerNumber (r .answer) ≡ 0
-  answered z = ap (λ (x : PhalandrixMargin). x .number) (sym is-told) ∙ z
+pub answered : (r : MarginAnswer) (t : PhalandrixMargin) → t ≡ toldOf r → t .number ≡ 0 → answerNumber (r .answer) ≡ 0
+answered r t is-told z = ap (λ (x : PhalandrixMargin). x .number) (sym is-told) ∙ z
