@@ -30,6 +30,7 @@ use Rattle.rules.proofs.ReadWellFormed.{admitted-well-formed}
 use Rattle.rules.proofs.TrueReports.{number-some}
 use Rattle.margins.specs.Margins.{limitsFrom, limitsOf, Margin, onLimits, marginOn, marginAdmitted, marginText, marginOf}
 use Rattle.margins.specs.Kept.{Keeps, TrueMargins}
+use Rattle.margins.proofs.Printed.{margin-text-tells}
 
 -- the least true figure is within a limit exactly when the graph keeps it
 module _ (X : Box) (i u f limit : ℕ) (least : LeastTrue X i u f) where
@@ -87,6 +88,11 @@ many-limits n s =
     last (refused r) m = tt
     last (done vs p) m = at-end vs p (p .bytes) m
 
+-- the numbers of a text are told by it
+numbers-told : (x : Reply) (k l t u : ℕ) (fs gs ls ms : List ℕ) → length ls ≡ length fs → length ms ≡ length gs
+    → x ≡ says (marginText k t fs ls) → x ≡ says (marginText l u gs ms) → (l ≡ k) × (u ≡ t) × (gs ≡ fs) × (ms ≡ ls)
+numbers-told x k l t u fs gs ls ms a b p q = margin-text-tells l k u t gs fs ms ls b a (let e : marginText l u gs ms ≡ marginText k t fs ls = cc in e)
+
 no-text : {r : Refusal} {s : List ℕ} → refuses r ≡ says s → ⊥
 no-text q = let z : _≡_ {A = ℕ} 0 1 = cc in omega arith
 
@@ -106,6 +112,10 @@ module _ (bytes limits : List ℕ) where
       let w = wholeWalk (boxOf U) in
       let ok = (admitted-well-formed bytes U e) .0 in
       let least = figures-are-least-true U ok k h in
+      let says-so : (marginOf bytes limits) .reply ≡ says (marginText k (w .ticks) (w .figures) vs) =
+      ap (λ (m : Margin). m .reply) (margin-is U e (settled k) h) ∙ ap (λ (x : Outcome (List ℕ)). (onLimits k (w .ticks) (w .figures) x) .reply) r in
+      let as-many : length (w .figures) ≡ length (U .graphs) = length-map (boxOf U .sinks) _ ∙ length-sinks 0 (U .graphs) in
+      let as-many-limits : length vs ≡ length (U .graphs) = subst (Many (length (U .graphs))) r (many-limits (length (U .graphs)) limits) in
       record {
         table = U;
         is-admitted = e;
@@ -115,9 +125,10 @@ module _ (bytes limits : List ℕ) where
         limits = vs;
         end = p;
         are-limits = r;
-        text = ap (λ (m : Margin). m .reply) (margin-is U e (settled k) h) ∙ ap (λ (x : Outcome (List ℕ)). (onLimits k (w .ticks) (w .figures) x) .reply) r;
-        many = length-map (boxOf U .sinks) _ ∙ length-sinks 0 (U .graphs);
-        many-limits = subst (Many (length (U .graphs))) r (many-limits (length (U .graphs)) limits);
+        text = says-so;
+        no-others = λ l u gs ms a q. numbers-told _ k l (w .ticks) u (w .figures) gs vs ms (as-many-limits ∙ sym as-many) a says-so q;
+        many = as-many;
+        many-limits = as-many-limits;
         least-true = least;
         kept = λ g l. keeps (boxOf U) (getD (boxOf U .sinks) g 0) (w .ticks) (getD (w .figures) g 0) (getD vs g 0) (least g l);
         only-kept = λ g l. only-then (boxOf U) (getD (boxOf U .sinks) g 0) (w .ticks) (getD (w .figures) g 0) (getD vs g 0) (least g l) (whole-needs U ok);

@@ -34,6 +34,9 @@ pub record TrueMargins (bytes limitBytes : List ℕ) : Type 0 where
   pub end : Place
   pub are-limits : limitsOf (length (table .graphs)) limitBytes ≡ done limits end
   pub text : (marginOf bytes limitBytes) .reply ≡ says (marginText round ticks figures limits)
+  -- and these are the printed ones: no other numbers, one limit for each figure, have that text
+  pub no-others : (r t : ℕ) (fs ls : List ℕ) → length ls ≡ length fs → (marginOf bytes limitBytes) .reply ≡ says (marginText r t fs ls)
+      → (r ≡ round) × (t ≡ ticks) × (fs ≡ figures) × (ls ≡ limits)
   pub many : length figures ≡ length (table .graphs)
   pub many-limits : length limits ≡ length (table .graphs)
   pub least-true : (g : ℕ) → g < length (table .graphs) → LeastTrue (boxOf table) (getD (boxOf table .sinks) g 0) ticks (getD figures g 0)
