@@ -60,6 +60,9 @@ const GUARD: usize = 24;
 /// The calls on one table; what differs, in words.
 pub fn check(library: &dyn Library, table: &[u8], report: &Reply, rng: &mut Rng) -> Result<Margins, String> {
     let mut seen = Margins::default();
+    if library.margin(table, b"", &mut []).is_none() {
+        return Ok(seen);
+    }
     let figures = figures(report);
     for _ in 0..TEXTS {
         let limits = limit_text(&figures, rng);
@@ -106,15 +109,12 @@ fn call(
     let fresh: Vec<u8> = (0..room + 2 * GUARD).map(|at| 0x80 | (at as u8).wrapping_mul(37)).collect();
     let (mut left, mut got) = (fresh.clone(), fresh);
     let told = lend(&expected.reply, &mut left[GUARD..GUARD + room]);
-    let Some((answer, in_limits)) = library.margin(table, limits, &mut got[GUARD..GUARD + room]) else {
-        return Ok(());
-    };
-    if (answer, in_limits) != (told, expected.in_limits) || got != left {
+    let answer = library.margin(table, limits, &mut got[GUARD..GUARD + room]);
+    let in_limits = expected.in_limits;
+    if answer != Some((told, in_limits)) || got != left {
         let limits = limits.escape_ascii();
         return Err(format!(
-            "margins against \"{limits}\" into {room} bytes give {answer:?}, in the limits {in_limits}; \
-             should be {told:?}, in the limits {}",
-            expected.in_limits
+            "margins against \"{limits}\" into {room} bytes give {answer:?}, should be {told:?}, {in_limits}"
         ));
     }
     let Answer { number, .. } = told;
