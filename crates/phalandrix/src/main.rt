@@ -167,7 +167,14 @@ fn print_output(o: Output) {
     }
 }
 
-// The margins of the table on standard input. Which text a refusal is of does not stand in what document 02 has printed: people are told.
+// Which text a refusal is of does not stand in what document 02 has printed.
+fn tell_text(in_limits: bool) {
+    if in_limits {
+        io::write_all(STDERR_FILENO, b"phalandrix: this refusal is of the limit text\n");
+    }
+}
+
+// The margins of the table on standard input.
 fn print_margin(limits: &[u8], m: usize)
     requires { ⌜ (Limits.limitBytes .to < length (now limits)) × (m ≤ length (now limits)) ⌝ }
 {
@@ -177,9 +184,7 @@ fn print_margin(limits: &[u8], m: usize)
         Input::Failed => os::fail(b"standard input"),
         Input::Bytes(n) => {
             let printed = put_margin_to(&room, n, limits, m, &mut text);
-            if printed.in_limits {
-                io::write_all(STDERR_FILENO, b"phalandrix: this refusal is of the limit text\n");
-            }
+            tell_text(printed.in_limits);
             let k = printed.length;
             print(&text[..k]);
         }
