@@ -73,7 +73,14 @@ pub fn margin_walk(
         How::Settled(k) => {
             let st = w.state;
             let worst = st.worst;
-            on_limits(k, w.ticks, sheet::figures_of(graph, worst), graphs, limits, buffer)
+            on_limits(
+                k,
+                w.ticks,
+                sheet::figures_of(graph, worst),
+                graphs,
+                limits,
+                buffer,
+            )
         }
         How::Backlog => of_table(Answer::Refused(Refusal::Backlog)),
         How::Unsettled => of_table(Answer::Refused(Refusal::Unsettled)),

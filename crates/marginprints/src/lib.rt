@@ -35,7 +35,13 @@ pub fn put_margin(table: &[u8], limits: &[u8], text: &mut [u8]) -> MarginPrinted
 }
 
 // The same for inputs of which the first n and m bytes of two rooms are as much as the rooms hold: rooms past the limits are enough.
-pub fn put_margin_to(table: &[u8], n: usize, limits: &[u8], m: usize, text: &mut [u8]) -> MarginPrinted
+pub fn put_margin_to(
+    table: &[u8],
+    n: usize,
+    limits: &[u8],
+    m: usize,
+    text: &mut [u8],
+) -> MarginPrinted
     requires { ⌜ (tableBytes .to < length (now table)) × (n ≤ length (now table)) ⌝ }
     requires { ⌜ (limitBytes .to < length (now limits)) × (m ≤ length (now limits)) ⌝ }
     requires { ⌜ longestMargins ≤ length (now text) ⌝ }

@@ -170,7 +170,10 @@ fn print_output(o: Output) {
 // Which text a refusal is of does not stand in what document 02 has printed.
 fn tell_text(in_limits: bool) {
     if in_limits {
-        io::write_all(STDERR_FILENO, b"phalandrix: this refusal is of the limit text\n");
+        io::write_all(
+            STDERR_FILENO,
+            b"phalandrix: this refusal is of the limit text\n",
+        );
     }
 }
 

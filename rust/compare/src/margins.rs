@@ -118,6 +118,10 @@ fn call(
         ));
     }
     let Answer { number, .. } = told;
-    if in_limits { seen.of_limits[number as usize] += 1 } else { seen.of_table[number as usize] += 1 }
+    if in_limits {
+        seen.of_limits[number as usize] += 1
+    } else {
+        seen.of_table[number as usize] += 1
+    }
     Ok(())
 }

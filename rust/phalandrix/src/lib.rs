@@ -52,8 +52,8 @@ mod text;
 pub use calls::{Answer, BatchAnswer, batch, report, row, shares};
 pub use margins::{MarginAnswer, MarginRefusal, Margins, margin, margins_of};
 pub use refusal::{
-    FIXES_BYTES, InTable, MARGIN_BYTES, REPORT_BYTES, ROW_BYTES, Reason, Refusal, SALVAGE_BYTES, STACK_BYTES, TABLES,
-    VERSION, WRITTEN_BYTES,
+    FIXES_BYTES, InTable, MARGIN_BYTES, REPORT_BYTES, ROW_BYTES, Reason, Refusal, SALVAGE_BYTES, STACK_BYTES,
+    TABLES, VERSION, WRITTEN_BYTES,
 };
 pub use reports::{Report, report_of};
 pub use rows::{Row, Run, row_at};

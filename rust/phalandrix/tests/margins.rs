@@ -34,7 +34,10 @@ fn refusals_tell_their_text_and_leave_the_buffer() {
 fn margins_as_values() {
     let margins = margins_of(TABLE, b"limit=5\n").expect("margins");
     assert_eq!(margins.to_string(), TEXT);
-    assert_eq!((margins.responses().collect::<Vec<_>>(), margins.margins().collect::<Vec<_>>()), (vec![6], vec![-1]));
+    assert_eq!(
+        (margins.responses().collect::<Vec<_>>(), margins.margins().collect::<Vec<_>>()),
+        (vec![6], vec![-1])
+    );
     let MarginRefusal::Limits(refusal) = margins_of(TABLE, b"limit=x\n").unwrap_err() else {
         panic!("of the limits")
     };
