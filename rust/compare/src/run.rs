@@ -79,7 +79,8 @@ fn run_part(library: &dyn Library, options: &Options, part: u64, end: &AtomicU64
 
 fn run_seed(library: &dyn Library, seed: u64, by_force: bool, outcomes: &mut Outcomes) -> Result<(), Fault> {
     let table = make(seed).text;
-    let Checked { report, calls, plain, difference } = check(library, &table, Effort::USUAL, &mut rng_for(seed));
+    let Checked { report, calls, plain, difference } =
+        check(library, &table, Effort::USUAL, &mut rng_for(seed));
     if let Some(difference) = difference {
         return Err(shrunken(library, seed, &table, difference));
     }
