@@ -11,8 +11,8 @@
  * memcpy and memset and nothing else.
  *
  * Time: a call walks at most 1,290,000 ticks for a table. The longest walks took 0.01 to 0.06 seconds
- * where they were measured (docs/BENCHMARK.md); that is not proved. Stack: PHALANDRIX_STACK_BYTES,
- * below.
+ * where they were measured, and some 2 seconds by the plain engine (docs/BENCHMARK.md); that is not
+ * proved. Stack: PHALANDRIX_STACK_BYTES and PHALANDRIX_PLAIN_STACK_BYTES, below.
  *
  * This file is the home of the version, of the sentences for people, and of the sizes below: ./run
  * and the Rust package read them from here.
