@@ -80,6 +80,8 @@ enum {
      * never refused as PHALANDRIX_SHORT_BUFFER; this is proved. */
     PHALANDRIX_REPORT_BYTES = 212,
     PHALANDRIX_ROW_BYTES = 384,
+    /* The same for the text of a table that is written. */
+    PHALANDRIX_WRITTEN_BYTES = 2616,
     /* The length of the longest text that a salvage leaves, and of its longest list. A salvage whose
      * buffers are that long is never refused as PHALANDRIX_SHORT_BUFFER; this is proved. */
     PHALANDRIX_SALVAGE_BYTES = 4096,
@@ -88,6 +90,53 @@ enum {
      * It is not proved. */
     PHALANDRIX_STACK_BYTES = 20480
 };
+
+/* A table in memory, for an editor: plain numbers, and any content may be passed to
+ * phalandrix_write. Bit p - 1 of a node's `after` is set for each predecessor p. The first `graphs` of
+ * `graph` are the table's. Their nodes stand one behind the other in `node`, graph after graph, from
+ * its start on: a graph's first node is found by counting those of the graphs before it. What stands
+ * past the counts is not looked at. */
+enum {
+    PHALANDRIX_GRAPHS = 8,
+    PHALANDRIX_NODES = 32
+};
+
+typedef struct phalandrix_node {
+    uint32_t budget;
+    uint32_t level;
+    uint32_t after;
+} phalandrix_node;
+
+typedef struct phalandrix_graph {
+    uint32_t period;
+    uint32_t offset;
+    uint32_t nodes;
+} phalandrix_graph;
+
+typedef struct phalandrix_table {
+    uint32_t processors;
+    uint32_t rounds;
+    uint32_t graphs;
+    phalandrix_graph graph[PHALANDRIX_GRAPHS];
+    phalandrix_node node[PHALANDRIX_NODES];
+} phalandrix_table;
+
+/* number, line and column 0 and the table, all zeros past its counts; or the number of a refusal, its
+ * line and column, and a table of zeros. */
+typedef struct phalandrix_reading {
+    uint32_t number;
+    uint32_t line;
+    uint32_t column;
+    phalandrix_table table;
+} phalandrix_reading;
+
+/* Reads a table into memory, or gives refusal 1, 2, 3 or 4. */
+phalandrix_reading phalandrix_read(const uint8_t *table, size_t table_length);
+
+/* Writes a table in memory as the text that is read as that table. Refused are 3 and 4, with the line
+ * it would stand on and column 0, in line order; then 10. A legal text that was read is written as the
+ * same bytes. */
+phalandrix_answer phalandrix_write(phalandrix_table table, uint8_t *buffer, size_t buffer_length);
 
 /* The report: `answer=0`, `round=`, `ticks=` and one `response=` per graph, a line each. */
 phalandrix_answer phalandrix_report(const uint8_t *table, size_t table_length,

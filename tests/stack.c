@@ -1,5 +1,5 @@
-/* The stack of the calls: each table named is reported, its row taken at 0, it is salvaged, and reported
- * twice in one call, on a stack that was painted before, and the paint gone is counted.
+/* The stack of the calls: each table named is reported, its row taken at 0, it is salvaged, reported twice
+ * in one call, read and written, on a stack that was painted before, and the paint gone is counted.
  * PHALANDRIX_STACK_BYTES must hold every call. */
 #define _GNU_SOURCE
 #include "phalandrix.h"
@@ -13,8 +13,9 @@ enum { ROOM = 256 * 1024, PAINT = 0xA5, LONGEST_TABLE = 5000 };
 static uint8_t stack[ROOM];
 static uint8_t table[2 * LONGEST_TABLE];
 static size_t table_length;
-static uint8_t buffer[2 * PHALANDRIX_ROW_BYTES];
+static uint8_t buffer[2 * PHALANDRIX_ROW_BYTES + PHALANDRIX_WRITTEN_BYTES];
 static uint8_t text[PHALANDRIX_SALVAGE_BYTES], list[PHALANDRIX_FIXES_BYTES];
+static phalandrix_reading reading;
 static ucontext_t here, there;
 
 static void nothing(void) { }
@@ -30,6 +31,8 @@ static void make_batch(void)
     size_t lengths[] = {table_length, table_length};
     phalandrix_batch(table, 2 * table_length, lengths, 2, buffer, sizeof buffer);
 }
+static void make_reading(void) { reading = phalandrix_read(table, table_length); }
+static void make_text(void) { phalandrix_write(reading.table, buffer, sizeof buffer); }
 
 /* The bytes of a painted stack that are no longer as they were. */
 static size_t used_by(void (*call)(void))
@@ -64,7 +67,7 @@ static size_t larger(size_t one, size_t other) { return one > other ? one : othe
 
 int main(int count, char **names)
 {
-    size_t report = 0, row = 0, batch = 0, salvage = 0, without = used_by(nothing);
+    size_t report = 0, row = 0, batch = 0, salvage = 0, reads = 0, writes = 0, without = used_by(nothing);
 
     for (int i = 1; i < count; i++) {
         if (!read_table(names[i])) {
@@ -75,9 +78,13 @@ int main(int count, char **names)
         row = larger(row, used_by(make_row) - without);
         batch = larger(batch, used_by(make_batch) - without);
         salvage = larger(salvage, used_by(make_salvage) - without);
+        reads = larger(reads, used_by(make_reading) - without);
+        writes = larger(writes, used_by(make_text) - without);
     }
-    printf("tests/stack: over %d tables report used %zu bytes of stack, row %zu, batch %zu, salvage %zu; "
-           "the header says %d\n", count - 1, report, row, batch, salvage, PHALANDRIX_STACK_BYTES);
-    return report == 0 || row == 0 || batch == 0 || salvage == 0
-        || larger(larger(report, row), larger(batch, salvage)) > PHALANDRIX_STACK_BYTES;
+    printf("tests/stack: over %d tables report used %zu bytes of stack, row %zu, batch %zu, salvage %zu, "
+           "read %zu, write %zu; the header says %d\n",
+           count - 1, report, row, batch, salvage, reads, writes, PHALANDRIX_STACK_BYTES);
+    return report == 0 || row == 0 || batch == 0 || salvage == 0 || reads == 0 || writes == 0
+        || larger(larger(larger(report, row), larger(batch, salvage)), larger(reads, writes))
+            > PHALANDRIX_STACK_BYTES;
 }

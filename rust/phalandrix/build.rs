@@ -46,6 +46,10 @@ fn rust_of(header: &str) -> String {
         ("SALVAGE_BYTES", "The length of the longest text that is left of a spoiled one."),
         ("FIXES_BYTES", "The length of the longest list of what was mended."),
         ("TABLES", "The tables of one call, at most."),
+        (
+            "WRITTEN_BYTES",
+            "The length of the longest text of a table: no write with such a buffer is refused as 10.",
+        ),
         ("STACK_BYTES", "The bytes of stack that a call needs at most; measured, not proved."),
     ] {
         let rest = between(header, &format!("PHALANDRIX_{name} = "), "\n");

@@ -15,12 +15,13 @@ use Rattle.scanning.specs.declared.scanners.Found.{Found}
 use Rattle.scanning.specs.declared.scanners.Found.the-variants as Found
 use Rattle.scanning.proofs.ScannerLaws.{next, past}
 use Rattle.asking.specs.declared.instants.Instant.{Instant}
+use Rattle.asking.specs.declared.questions.Question.the-variants.{Rewrite}
 use Rattle.asking.specs.declared.questions.Asked.{Asked}
 use Rattle.asking.specs.declared.questions.Asked.the-variants as Asked
 use Rattle.asking.specs.declared.lengths.Lengths.{Lengths}
 use Rattle.asking.specs.Instants.{atEnd, instantBy, instantOf}
 use Rattle.asking.specs.Lengths.{isAt, isNumber, noLengths, lengthsOn, lengthsBy}
-use Rattle.asking.specs.Questions.{row, batch, salvage, fixes, longestWord, wholly, isWord, rowAsked, outputAsked, textAskedBy, textQuestion, batchAsked, questionOf, asked, fitting, Told}
+use Rattle.asking.specs.Questions.{row, batch, salvage, fixes, rewrite, longestWord, wholly, isWord, rowAsked, rewriteAsked, outputAsked, textAskedBy, textQuestion, batchAsked, questionOf, asked, fitting, Told}
 
 -- a word by what the scanner of a text found
 module _ (w s : List ℕ) (r : Found) (found : foundOf s r ≡ text w s) where
@@ -60,6 +61,10 @@ no-fixes : isWord fixes [] ≡ false
 unfolding text
 no-fixes = refl
 
+no-rewrite : isWord rewrite [] ≡ false
+unfolding text
+no-rewrite = refl
+
 or-none : (b : Bool) → b ≡ (b || false)
 or-none true = refl
 or-none false = refl
@@ -95,7 +100,7 @@ by-lengths ts = rw (unread-by noLengths ts, misspelled-by noLengths ts) (either 
 
 module _ (room : ℕ) (l : longestWord ≤ room) where
   by-output : (w : List ℕ) → outputAsked (fitting room w) ≡ outputAsked w
-  by-output w = rw (in-its-room salvage no-salvage room l w, in-its-room fixes no-fixes room (omega arith) w)
+  by-output w = rw (in-its-room salvage no-salvage room l w, in-its-room fixes no-fixes room (omega arith) w, in-its-room rewrite no-rewrite room l w)
 
   by-text : (w : List ℕ) (ts : List (List ℕ)) → textAskedBy (suc (length (w ∷ ts))) (fitting room w) (instantOf (getD (w ∷ ts) 1 [])) ≡ textQuestion w ts
   by-text w [] = by-output w

@@ -10,7 +10,7 @@ use Rattle.format.specs.Bytes.{bytes}
 use Rattle.format.specs.Spelling.{Scan, read, wrong, text}
 use Rattle.asking.specs.declared.instants.Instant.{Instant}
 use Rattle.asking.specs.declared.instants.Instant.the-variants.{At, Misspelled, Unread}
-use Rattle.asking.specs.declared.questions.Question.the-variants.{Report, Row}
+use Rattle.asking.specs.declared.questions.Question.the-variants.{Report, Row, Rewrite}
 use Rattle.asking.specs.declared.questions.Asked.{Asked}
 use Rattle.asking.specs.declared.questions.Asked.the-variants as Asked
 use Rattle.asking.specs.declared.lengths.Lengths.{Lengths}
@@ -29,6 +29,9 @@ salvage = bytes "salvage"
 
 abbrev pub fixes : List ℕ
 fixes = bytes "fixes"
+
+abbrev pub rewrite : List ℕ
+rewrite = bytes "rewrite"
 
 abbrev pub longestWord : ℕ
 longestWord = length salvage
@@ -50,11 +53,15 @@ rowAsked Unread = Asked.Unread
 abbrev pub batchAsked : Lengths → Asked
 batchAsked s = cond (s .unread) Asked.Unread (cond (s .misspelled) Asked.Usage Asked.Batch)
 
--- by a word that stands alone: `salvage` asks for what is left of a text, `fixes` for the list of what was changed
-abbrev pub outputAsked : List ℕ → Asked
-outputAsked w = cond (isWord salvage w) Asked.Salvage (cond (isWord fixes w) Asked.Fixes Asked.Usage)
+abbrev pub rewriteAsked : List ℕ → Asked
+rewriteAsked w = cond (isWord rewrite w) (Asked.Answer Rewrite) Asked.Usage
 
--- of one text: `salvage` or `fixes`, that output; `row` and an instant, the row at it
+-- by a word that stands alone: `salvage` asks for what is left of a text, `fixes` for the list of what was changed, `rewrite` for the table read
+-- and written again
+abbrev pub outputAsked : List ℕ → Asked
+outputAsked w = cond (isWord salvage w) Asked.Salvage (cond (isWord fixes w) Asked.Fixes (rewriteAsked w))
+
+-- of one text: `salvage`, `fixes` or `rewrite`, that output; `row` and an instant, the row at it
 abbrev pub textQuestion : List ℕ → List (List ℕ) → Asked
 textQuestion w [] = outputAsked w
 textQuestion w (t ∷ []) = cond (isWord row w) (rowAsked (instantOf t)) Asked.Usage

@@ -4,6 +4,7 @@ mod instants;
 mod lengths;
 mod outputs;
 mod questions;
+mod rewrites;
 
 pub use arguments::Passed;
 pub use arguments::instant_told;

@@ -1,5 +1,6 @@
-// The words that ask for the two outputs of salvage.
+// The words that stand alone: those for the two outputs of salvage, and `rewrite`.
 use crate::questions::Asked;
+use crate::rewrites::rewrite_asked;
 use scanning::Found;
 ghost use mathlib.Core.Path.{_≡_};
 ghost use Rattle.asking.specs.Questions.{isWord, salvage, fixes, outputAsked};
@@ -34,5 +35,5 @@ pub fn output_asked(word: &[u8]) -> Asked
     if is_fixes(word) {
         return Asked::Fixes;
     }
-    Asked::Usage
+    rewrite_asked(word)
 }

@@ -12,6 +12,7 @@ ghost use Rattle.asking.specs.Questions.{isWord, row, batch, longestWord
 pub enum Question {
     Report,
     Row(u32),
+    Rewrite,
 }
 
 pub enum Asked {

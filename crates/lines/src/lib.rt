@@ -3,10 +3,12 @@ mod judging;
 mod numbering;
 mod reader;
 
+pub use judging::AFTER;
 pub use judging::BUDGET;
 pub use judging::NODES;
 pub use judging::PERIOD;
 pub use judging::PROCESSORS;
+pub use judging::is_within;
 pub use judging::value_column;
 pub use numbering::FIRST_COLUMN;
 pub use numbering::Place;

@@ -1,6 +1,6 @@
-// The program: a table on standard input; on standard output its report or, with `row T`, its row at instant T. With `batch` and lengths, tables
-// end to end on standard input, and what is printed for each. With `salvage` the text is mended, and what is left is printed; with `fixes` the
-// list of what was changed.
+// The program: a table on standard input; on standard output its report or, with `row T`, its row at instant T, or, with `rewrite`, the table
+// read and written again. With `batch` and lengths, tables end to end on standard input, and what is printed for each. With `salvage` the text
+// is mended, and what is left is printed; with `fixes` the list of what was changed.
 use asking::Asked;
 use asking::Instant;
 use asking::Lengths;
@@ -47,7 +47,7 @@ enum Line {
 fn print_usage() {
     io::write_all(
         STDERR_FILENO,
-        b"usage: phalandrix < TABLE          the report\n       phalandrix row T < TABLE    the row at instant T\n       phalandrix batch L1 .. Ln < TABLES    the reports of tables end to end, of these lengths\n       phalandrix salvage < TEXT   the text mended\n       phalandrix fixes < TEXT     what was mended\n",
+        b"usage: phalandrix < TABLE          the report\n       phalandrix row T < TABLE    the row at instant T\n       phalandrix batch L1 .. Ln < TABLES    the reports of tables end to end, of these lengths\n       phalandrix rewrite < TABLE  the table, read and written again\n       phalandrix salvage < TEXT   the text mended\n       phalandrix fixes < TEXT     what was mended\n",
     );
 }
 

@@ -16,10 +16,14 @@ use Rattle.rules.proofs.CutTables.{report-of-cut, row-of-cut}
 use Rattle.rules.specs.Answers.{Reply, says, refuses, printed, reportOf, rowOf, fitted, Call, left, callOf}
 use Rattle.writing.specs.Written.{Written}
 use Rattle.writing.specs.Lengths.{longestReport, longestRow, longestRefusal}
+use Rattle.writer.specs.Lengths.{longestWritten}
+use Rattle.writer.proofs.WrittenLength.{longest-is}
+use Rattle.editing.specs.Editing.{rewriteOf}
+use Rattle.editing.proofs.Rewritten.{every-rewrite-fits, rewrite-of-cut}
 use Rattle.sheet.proofs.Room.{every-report-fits}
 use Rattle.sheet.proofs.RowRoom.{every-row-fits}
 use Rattle.asking.specs.declared.questions.Question.{Question}
-use Rattle.asking.specs.declared.questions.Question.the-variants.{Report, Row}
+use Rattle.asking.specs.declared.questions.Question.the-variants.{Report, Row, Rewrite}
 use Rattle.printing.specs.Rooms.{Holds}
 use Rattle.printing.specs.Questions.{replyOf, longestAnswer}
 use borrow.Author.Tests.{le-leb}
@@ -60,19 +64,28 @@ unfolding fitted
 fits (says s) n m h l = rw (le-leb (length s) n (omega (arith, h s refl)))
 fits (refuses r) n m h l = refl
 
-reply-fits : (q : Question) (table : List ℕ) (n : ℕ) → longestRow ≤ n → fitted n (replyOf q table) ≡ replyOf q table
-reply-fits Report table n l = fits (reportOf table) n longestReport (every-report-fits table) (omega arith)
+reply-fits : (q : Question) (table : List ℕ) (n : ℕ) → longestAnswer q ≤ n → fitted n (replyOf q table) ≡ replyOf q table
+reply-fits Report table n l = fits (reportOf table) n longestReport (every-report-fits table) l
 reply-fits (Row t) table n l = fits (rowOf table t) n longestRow (every-row-fits table t) l
+reply-fits Rewrite table n l = fits (rewriteOf table) n longestWritten (every-rewrite-fits table) l
 
 answer-short : (q : Question) (table s : List ℕ) → replyOf q table ≡ says s → length s ≤ longestAnswer q
 answer-short Report table s e = every-report-fits table s e
 answer-short (Row t) table s e = every-row-fits table t s e
+answer-short Rewrite table s e = every-rewrite-fits table s e
 
 pub refusal-short : (q : Question) (n : ℕ) → n ≤ longestRefusal → n ≤ longestAnswer q
 refusal-short Report n h = omega arith
 refusal-short (Row t) n h = omega arith
+refusal-short Rewrite n h = omega (arith, h, longest-is)
 
-module _ (q : Question) (table before after : List ℕ) (room : longestRow ≤ length before) where
+-- room for the longest table is room for every answer
+pub answers-fit : (q : Question) (n : ℕ) → longestWritten ≤ n → longestAnswer q ≤ n
+answers-fit Report n l = omega (arith, l, longest-is)
+answers-fit (Row t) n l = omega (arith, l, longest-is)
+answers-fit Rewrite n l = l
+
+module _ (q : Question) (table before after : List ℕ) (room : longestAnswer q ≤ length before) where
   answered : (x : Answer) → called x after ≡ callOf before (replyOf q table) → called x after ≡ left before (replyOf q table)
   unfolding callOf
   answered x e = rw (reply-fits q table (length before) room) at e
@@ -97,6 +110,7 @@ written-within s before after n w = omega (arith, w .size, ap length (w .bytes),
 reply-of-cut : (q : Question) (room : ℕ) → tableBytes .to < room → (s : List ℕ) → replyOf q (take room s) ≡ replyOf q s
 reply-of-cut Report room h s = report-of-cut room h s
 reply-of-cut (Row t) room h s = row-of-cut room h s t
+reply-of-cut Rewrite room h s = rewrite-of-cut room h s
 
 -- what is printed for the bytes in a room past the limit is what is printed for the input that it holds
 pub held-printed : (q : Question) (room before after : List ℕ) (n m : ℕ) → tableBytes .to < length room

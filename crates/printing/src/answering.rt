@@ -7,6 +7,7 @@ ghost use Prim.Native.Nat.{ℕ, _≤_, _<_};
 ghost use lib.ListN.{length};
 ghost use Rattle.schedule.specs.Limits.{tableBytes};
 ghost use Rattle.rules.specs.Answers.{printed, callOf};
+ghost use Rattle.writer.specs.Lengths.{longestWritten};
 ghost use Rattle.writing.specs.Lengths.{longestRow};
 ghost use Rattle.writing.specs.Written.{Written};
 ghost use Rattle.sheet.specs.Calls.{called};
@@ -19,12 +20,14 @@ pub fn asked(q: Question, table: &[u8], text: &mut [u8]) -> Answer
     match q {
         Question::Report => sheet::report(table, text),
         Question::Row(instant) => sheet::row(table, instant as u64, text),
+        Question::Rewrite => editing::rewrite(table, text),
     }
 }
 
 // The answer's text, or a refusal's number and line, at the start of `text`. There is room for every text, so none is refused as 10.
 pub fn put_answer(q: Question, table: &[u8], text: &mut [u8]) -> usize
     requires { ⌜ longestRow ≤ length (now text) ⌝ }
+    requires { ⌜ longestAnswer q ≤ length (now text) ⌝ }
     ensures { λ n. ⌜ Written (printed (replyOf q (now (table .entry)))) (now (text .entry)) (now (text .exit)) n ⌝ }
     ensures { λ n. ⌜ n ≤ longestAnswer q ⌝ }
 {
@@ -43,7 +46,7 @@ pub fn put_answer(q: Question, table: &[u8], text: &mut [u8]) -> usize
 pub fn put_answer_to(q: Question, room: &[u8], n: usize, text: &mut [u8]) -> usize
     requires { ⌜ tableBytes .to < length (now room) ⌝ }
     requires { ⌜ n ≤ length (now room) ⌝ }
-    requires { ⌜ longestRow ≤ length (now text) ⌝ }
+    requires { ⌜ longestWritten ≤ length (now text) ⌝ }
     ensures { λ m. ⌜ ((input : List ℕ) → Holds input (now (room .entry)) n → Written (printed (replyOf q input)) (now (text .entry)) (now (text .exit)) m) ⌝ }
     ensures { λ m. ⌜ m ≤ length (now (text .exit)) ⌝ }
 {

@@ -2,7 +2,7 @@
 use mathlib.Core.Path.{_≡_, sym, _∙_, ap}
 use mathlib.Core.Bool.{Bool, true, _&&_, _||_, or-false, or-assoc, and-true, and-assoc}
 use mathlib.Core.List.{List, [], _∷_}
-use Prim.Native.Nat.{ℕ, zero, suc, _+_, _-_, _≤_}
+use Prim.Native.Nat.{ℕ, zero, suc, _+_, _-_, _<_, _≤_}
 use native.Mathlib.Omega.{arith}
 use lib.Bits.{bitOr}
 use lib.Dec.{eqb}
@@ -36,15 +36,15 @@ all-last p a (suc n) =
     let e : a + suc n ≡ suc a + n = omega arith in
     rw e (ap (λ (b : Bool). p a && b) (all-last p (suc a) n) ∙ sym (and-assoc (p a) (all? p (numbers (suc a) n)) (p (suc a + n))))
 
-unset-all : (p : ℕ → Bool) (k u : ℕ) → ((j : ℕ) → bit u j ≡ p (suc j)) → eqb (unsetBelow k u) 0 ≡ all? p (upTo k)
+pub unset-all : (p : ℕ → Bool) (k u : ℕ) → ((j : ℕ) → j < k → bit u j ≡ p (suc j)) → eqb (unsetBelow k u) 0 ≡ all? p (upTo k)
 unset-all p zero u h = unset-none u
 unset-all p (suc k) u h =
     let e : suc k ≡ 1 + k = omega arith in
-    unset-more k u ∙ ap (λ (b : Bool). b && bit u k) (unset-all p k u h) ∙ ap (λ (b : Bool). all? p (upTo k) && b) (h k ∙ ap p e) ∙ sym (all-last p 1 k)
+    unset-more k u ∙ ap (λ (b : Bool). b && bit u k) (unset-all p k u (λ j l. h j (omega arith))) ∙ ap (λ (b : Bool). all? p (upTo k) && b) (h k (omega arith) ∙ ap p e) ∙ sym (all-last p 1 k)
 
 pub successors : (xs : List Node) → length xs ≤ Limits.nodes .to → nodesFormed 1 xs ≡ true
     → eqb (unsetBelow (length xs - 1) (namedFrom 0 xs)) 0 ≡ allFollowed xs
 unfolding allFollowed
 successors xs h e =
     unset-all (followed xs) (length xs - 1) (namedFrom 0 xs)
-    (λ j. named-bit xs 1 0 j (omega arith) e ∙ ap (λ (b : Bool). b || followed xs (suc j)) (no-bit j))
+    (λ j l. named-bit xs 1 0 j (omega arith) e ∙ ap (λ (b : Bool). b || followed xs (suc j)) (no-bit j))

@@ -85,7 +85,7 @@ graphs-holds total (suc n) p h =
     let k = within-limits Limits.nodes (length (G .nodes)) (graph-formed G (i .0) .few) .0 in
     (both (i .0) (j .0), ap suc (j .1), omega (arith, j .2), omega (arith, j .3))))
 
-table-holds : (p : Place) → Holds (λ T q. wellFormed T ≡ true) (table p)
+pub table-holds : (p : Place) → Holds (λ T q. wellFormed T ≡ true) (table p)
 unfolding table wellFormed keys
 table-holds p =
     then-holds _ _ (numberLine Keys.processors p) _ (number-line-holds Keys.processors p) (λ a q h.

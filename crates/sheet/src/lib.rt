@@ -8,5 +8,6 @@ mod walks;
 pub use exports::PhalandrixAnswer;
 pub use exports::phalandrix_report;
 pub use exports::phalandrix_row;
+pub use exports::told;
 pub use reporting::report;
 pub use rowing::row;

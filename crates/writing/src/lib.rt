@@ -7,6 +7,7 @@ mod report;
 mod row;
 
 pub use line::put_bytes;
+pub use line::put_ended;
 pub use line::put_line;
 pub use line::put_pair;
 pub use number::digits;

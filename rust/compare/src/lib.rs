@@ -5,6 +5,7 @@
 //! - `check`: all the calls made on one table;
 //! - `batches`: calls on several tables;
 //! - `mending`: the calls of salvage on one spoiled text;
+//! - `writer`: tables in memory, read and written;
 //! - `shrink`, `loose`: a smaller table with the same difference;
 //! - `run`: the tables of a range of seeds, on several threads;
 //! - `outcomes`: what came up, and what never did;
@@ -21,3 +22,4 @@ pub mod options;
 pub mod outcomes;
 pub mod run;
 pub mod shrink;
+pub mod writer;

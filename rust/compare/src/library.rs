@@ -2,7 +2,7 @@
 
 use crate::mending::Salvaged;
 use baseline::Pace;
-use simulator::{Answer, Batch, limits};
+use simulator::{Answer, Batch, Memory, Refusal, limits};
 
 /// The calls with lent buffers; several threads call one library.
 pub trait Library: Sync {
@@ -15,6 +15,16 @@ pub trait Library: Sync {
     fn salvage(&self, given: &[u8], text: &mut [u8], list: &mut [u8]) -> Salvaged {
         let baseline::Salvaged { number, text_length, list_length } = baseline::salvage(given, text, list);
         Salvaged { number, text_length, list_length, ..Salvaged::default() }
+    }
+
+    /// A table read into memory; none where the library has no such call.
+    fn read(&self, _table: &[u8]) -> Option<Result<Memory, Refusal>> {
+        None
+    }
+
+    /// A table in memory, written; none where the library has no such call.
+    fn write(&self, _memory: &Memory, _buffer: &mut [u8]) -> Option<Answer> {
+        None
     }
 }
 
@@ -106,6 +116,41 @@ impl Library for Proved {
             .collect();
         Batch { number: batch.number, line: batch.line, column: batch.column, answers }
     }
+    fn read(&self, table: &[u8]) -> Option<Result<Memory, Refusal>> {
+        let phalandrix::Reading { number, line, column, table } = phalandrix::read(table);
+        let memory = simulated(&table);
+        if number == 0 {
+            return Some(Ok(memory));
+        }
+        assert_eq!(memory, Memory::default(), "a refused table leaves nothing in memory");
+        Some(Err(Refusal { number, line, column }))
+    }
+
+    fn write(&self, memory: &Memory, buffer: &mut [u8]) -> Option<Answer> {
+        let phalandrix::Answer { number, line, column, length } = phalandrix::write(&linked(memory), buffer);
+        Some(Answer { number, line, column, length })
+    }
+}
+
+/// The second simulator's memory as the library's, and back.
+#[cfg(feature = "proved")]
+fn linked(memory: &Memory) -> phalandrix::Table {
+    use simulator::memory::{MemoryGraph, MemoryNode};
+    let &Memory { processors, rounds, graphs, graph, node } = memory;
+    let graph =
+        graph.map(|MemoryGraph { period, offset, nodes }| phalandrix::Graph { period, offset, nodes });
+    let node = node.map(|MemoryNode { budget, level, after }| phalandrix::Node { budget, level, after });
+    phalandrix::Table { processors, rounds, graphs, graph, node }
+}
+
+#[cfg(feature = "proved")]
+fn simulated(table: &phalandrix::Table) -> Memory {
+    use simulator::memory::{MemoryGraph, MemoryNode};
+    let &phalandrix::Table { processors, rounds, graphs, graph, node } = table;
+    let graph =
+        graph.map(|phalandrix::Graph { period, offset, nodes }| MemoryGraph { period, offset, nodes });
+    let node = node.map(|phalandrix::Node { budget, level, after }| MemoryNode { budget, level, after });
+    Memory { processors, rounds, graphs, graph, node }
 }
 
 /// The names `by_name` knows, the default first.

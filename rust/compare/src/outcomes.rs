@@ -1,6 +1,7 @@
 //! What has come up in a run, and what has not: a run that never met an outcome shows nothing of it.
 
 use crate::mending::Mendings;
+use crate::writer::Seen;
 use simulator::demand3::Looked;
 use simulator::overlap;
 use std::fmt;
@@ -31,6 +32,8 @@ pub struct Outcomes {
     pub overlap: overlap::Looked,
     /// What came of the spoiled texts.
     pub mendings: Mendings,
+    /// Tables in memory, read and written.
+    pub memory: Seen,
 }
 
 impl Outcomes {
@@ -54,7 +57,8 @@ impl Outcomes {
             all.push(("jobs of a node that overlap".into(), self.overlap.overlaps));
             all.push(("a start after an earlier job".into(), self.overlap.starts));
         }
-        all.into_iter().filter(|(_, count)| *count == 0).map(|(outcome, _)| outcome).collect()
+        let missing = all.into_iter().filter(|(_, count)| *count == 0).map(|(outcome, _)| outcome);
+        missing.chain(self.memory.missing()).collect()
     }
 }
 
@@ -69,6 +73,7 @@ impl AddAssign<&Outcomes> for Outcomes {
         self.attained += other.attained;
         self.overlap += other.overlap;
         self.mendings += &other.mendings;
+        self.memory += &other.memory;
     }
 }
 
@@ -92,6 +97,7 @@ impl fmt::Display for Outcomes {
             "; R-8 on {} ticks with overlap and {} starts",
             self.overlap.overlaps, self.overlap.starts
         )?;
-        write!(out, "; {}", self.mendings)
+        write!(out, "; {}", self.mendings)?;
+        write!(out, "; {}", self.memory)
     }
 }

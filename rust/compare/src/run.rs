@@ -8,6 +8,7 @@ use crate::mending::{self, Mendings};
 use crate::options::Options;
 use crate::outcomes::Outcomes;
 use crate::shrink::shrink;
+use crate::writer;
 use generator::{Rng, make, make_batch, spoiled};
 use simulator::question::judge;
 use simulator::reader::read;
@@ -26,6 +27,7 @@ pub enum Fault {
     Batch { seed: u64, tables: Vec<u8>, what: String },
     Demand3 { seed: u64, table: Vec<u8>, what: String },
     Overlap { seed: u64, table: Vec<u8>, what: String },
+    Memory { seed: u64, table: Vec<u8>, what: String },
 }
 
 /// Every so many seeds a call on several tables is made.
@@ -86,6 +88,8 @@ fn run_seed(library: &dyn Library, seed: u64, by_force: bool, outcomes: &mut Out
     if seed.is_multiple_of(BATCHES) {
         run_batch(library, seed, outcomes)?;
     }
+    let in_memory = writer::check(library, &table, &mut rng_for(seed));
+    outcomes.memory += &in_memory.map_err(|what| Fault::Memory { seed, table: table.clone(), what })?;
     if by_force {
         outcomes.looked(force(seed, &table)?);
         outcomes.overlap += force_overlap(seed, &table)?;
@@ -178,7 +182,8 @@ impl Fault {
             | Fault::Mends { seed, .. }
             | Fault::Batch { seed, .. }
             | Fault::Demand3 { seed, .. }
-            | Fault::Overlap { seed, .. } => *seed,
+            | Fault::Overlap { seed, .. }
+            | Fault::Memory { seed, .. } => *seed,
         }
     }
 }
@@ -202,6 +207,9 @@ impl fmt::Display for Fault {
             }
             Fault::Overlap { seed, table, what } => {
                 write!(out, "seed {seed} breaks R-8: {what}\n{}", shown(table))
+            }
+            Fault::Memory { seed, table, what } => {
+                write!(out, "seed {seed} differs in memory: {what}\n{}", shown(table))
             }
         }
     }

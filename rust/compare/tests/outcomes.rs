@@ -25,6 +25,7 @@ fn all() -> Outcomes {
         attained: 1,
         overlap,
         mendings,
+        ..Outcomes::default()
     }
 }
 

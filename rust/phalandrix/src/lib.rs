@@ -1,5 +1,7 @@
 //! How old the result of each periodic graph of a table can be, by the proved library.
 //!
+//! [`Table`] is a table as an editor holds it, parsed from text and written back to it.
+//!
 //! [`report_of`] and [`row_at`] give an answer or a [`Refusal`]; [`report`] and [`row`] are the plain
 //! calls below them, with a buffer lent by the caller. [`batch`] reports several tables in one call, and
 //! [`shares`] goes over its results. docs/TABLE.md in the repository says what a table
@@ -32,6 +34,7 @@
 //! - `calls`: the plain calls;
 //! - `salvage`: a text that another editor spoiled, mended;
 //! - `refusal`: the refusals, with the list made from the C header;
+//! - `tables`: a table in memory, read and written;
 //! - `reports`, `rows`: the answers as values, in a `text` of their own.
 #![no_std]
 #![deny(unsafe_op_in_unsafe_fn, clippy::undocumented_unsafe_blocks, missing_docs)]
@@ -41,13 +44,15 @@ mod refusal;
 mod reports;
 mod rows;
 mod salvage;
+mod tables;
 mod text;
 
 pub use calls::{Answer, BatchAnswer, batch, report, row, shares};
 pub use refusal::{
     FIXES_BYTES, InTable, REPORT_BYTES, ROW_BYTES, Reason, Refusal, SALVAGE_BYTES, STACK_BYTES, TABLES,
-    VERSION,
+    VERSION, WRITTEN_BYTES,
 };
 pub use reports::{Report, report_of};
 pub use rows::{Row, Run, row_at};
 pub use salvage::{Fix, Kind, Mended, Salvaged, mended, salvage};
+pub use tables::{Graph, Node, Reading, Table, Written, read, write};

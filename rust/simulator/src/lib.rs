@@ -6,6 +6,7 @@
 //! writes it. Rule numbers in comments are those of its section "The schedule".
 //!
 //! - `limits`, `table`, `reader`: the table and how its bytes are read;
+//! - `memory`: a table in memory, read and written;
 //! - `load`: the hyperperiod, the load, and nodes that cannot keep up;
 //! - `schedule`: rules 1 to 6 over whole histories (`history`);
 //! - `state`, `walk`: the state at a boundary and where the walk stops;
@@ -21,6 +22,7 @@ pub mod demand3;
 pub mod history;
 pub mod limits;
 pub mod load;
+pub mod memory;
 pub mod overlap;
 pub mod question;
 pub mod reader;
@@ -33,6 +35,7 @@ pub mod text;
 pub mod walk;
 
 pub use batch::{Batch, batch};
+pub use memory::Memory;
 pub use question::{report, row};
 pub use reply::{Answer, Refusal, Reply, lend};
 pub use table::{Graph, Node, Table};

@@ -1,6 +1,8 @@
 -- `answer` meets its contract: the room goes past the limit of a table's bytes, and none but the answer's bytes are printed.
 use mathlib.Core.Path.{sym}
+use native.Mathlib.Omega.{arith}
 use lib.Seq.{length-take-le}
+use Rattle.writer.proofs.WrittenLength.{longest-is}
 use borrow.Author.Needs.{needs}
 use Rattle.phalandrix.proofs.answer.Statement.{statement}
 use Rattle.phalandrix.proofs.answer.Tie as tie
@@ -36,7 +38,7 @@ put-answer-to-requires : tie.Need-put-answer-to-requires
 put-answer-to-requires c κs =
     let read = c .before .before .before in
     let n-within = rw (read .n .given .1) at (read .before .before .before .read-input .ensures) in
-    (search needs, (search (needs, n-within), search needs))
+    (search needs, (search (needs, n-within), omega (arith, longest-is)))
 
 array-share-prefix-text : tie.Need-array-share-prefix-text
 array-share-prefix-text c = c .before .put-answer-to .ensures .1

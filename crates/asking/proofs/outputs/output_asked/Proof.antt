@@ -16,8 +16,13 @@ is-fixes-requires c κs = search needs
 returns-2 : tie.Need-returns-2
 returns-2 c = rw (sym (c .before .before .before .is-salvage .ensures) ∙ c .before .before .if1 .left, sym (c .before .is-fixes .ensures) ∙ c .if2 .taken)
 
+rewrite-asked-requires : tie.Need-rewrite-asked-requires
+rewrite-asked-requires c κs = search needs
+
 returns-3 : tie.Need-returns-3
-returns-3 c = rw (sym (c .before .before .before .is-salvage .ensures) ∙ c .before .before .if1 .left, sym (c .before .is-fixes .ensures) ∙ c .if2 .left)
+returns-3 c =
+    rw (sym (c .before .before .before .before .is-salvage .ensures) ∙ c .before .before .before .if1 .left, sym (c .before .before .is-fixes .ensures) ∙ c .before .if2 .left)
+    (c .rewrite-asked .ensures)
 
 pub output-asked-spec : {M : Type 1} → statement M
-output-asked-spec = tie.close (tie.spec is-salvage-requires returns is-fixes-requires returns-2 returns-3)
+output-asked-spec = tie.close (tie.spec is-salvage-requires returns is-fixes-requires returns-2 rewrite-asked-requires returns-3)

@@ -18,6 +18,12 @@ cast-row c = search needs
 row-requires : tie.Need-row-requires
 row-requires c κs = search needs
 
+enum-told-2 : tie.Need-enum-told-2
+enum-told-2 c = search needs
+
+rewrite-requires : tie.Need-rewrite-requires
+rewrite-requires c κs = search needs
+
 same-length : tie.Need-same-length
 same-length c = search needs
 
@@ -30,6 +36,12 @@ same-length-2 c = search needs
 returns-2 : tie.Need-returns-2
 returns-2 c = rw (c .before .before .before .before .before .q .given .1) (c .before .before .row .ensures)
 
+same-length-3 : tie.Need-same-length-3
+same-length-3 c = search needs
+
+returns-3 : tie.Need-returns-3
+returns-3 c = rw (c .before .before .before .before .enum-told2 .given .1) (c .before .before .rewrite .ensures)
+
 pub asked-spec : {M : Type 1} → statement M
 asked-spec =
     tie.close
@@ -39,7 +51,11 @@ asked-spec =
     enum-known-q
     cast-row
     row-requires
+    enum-told-2
+    rewrite-requires
     same-length
     returns
     same-length-2
-    returns-2)
+    returns-2
+    same-length-3
+    returns-3)

@@ -28,7 +28,7 @@ returns c =
     let s = asked .before .before .before .before in
     let call = asked .asked .ensures in
     let told = rw (c .before .a .given .1) at call in
-    (text-printed (s .args .q) (s .args .table .now) _ _ (s .pre) _ told, text-short (s .args .q) (s .args .table .now) _ _ (s .pre) _ told)
+    (text-printed (s .args .q) (s .args .table .now) _ _ (s .pre .1) _ told, text-short (s .args .q) (s .args .table .now) _ _ (s .pre .1) _ told)
 
 same-length-2 : tie.Need-same-length-2
 same-length-2 c = search needs
@@ -39,7 +39,7 @@ returns-2 c =
     let asked = told .before .before .before .before .before .before in
     let s = asked .before .before .before .before in
     let call = asked .asked .ensures in (
-      refusal-printed (s .args .q) (s .args .table .now) _ _ (s .pre) _ _ _ _ (rw (told .before .before .a2 .given .1) at call) (told .refusal-length .ensures .size) (c .before .before .put-refusal .ensures),
+      refusal-printed (s .args .q) (s .args .table .now) _ _ (s .pre .1) _ _ _ _ (rw (told .before .before .a2 .given .1) at call) (told .refusal-length .ensures .size) (c .before .before .put-refusal .ensures),
       refusal-short (s .args .q) _ (told .refusal-length .ensures .within),
     )
 

@@ -2,7 +2,9 @@
 use mathlib.Core.Path.{sym}
 use lib.Seq.{length-take-le}
 use denote.Ref.{now}
-use Rattle.printing.proofs.Printed.{held-printed, written-within}
+use native.Mathlib.Omega.{arith}
+use Rattle.writer.proofs.WrittenLength.{longest-is}
+use Rattle.printing.proofs.Printed.{answers-fit, held-printed, written-within}
 use borrow.Author.Needs.{needs}
 use Rattle.printing.proofs.answering.put_answer_to.Statement.{statement}
 use Rattle.printing.proofs.answering.put_answer_to.Tie as tie
@@ -11,7 +13,9 @@ slice-aggregate-put-answer : tie.Need-slice-aggregate-put-answer
 slice-aggregate-put-answer c = sym (length-take-le _ _ (c .before .before .before .pre .1 .0))
 
 put-answer-requires : tie.Need-put-answer-requires
-put-answer-requires c κs = search needs
+put-answer-requires c κs =
+    let s = c .before .before .before .before in
+    (omega (arith, s .pre .1 .1, longest-is), answers-fit (s .args .q) _ (s .pre .1 .1))
 
 same-length : tie.Need-same-length
 same-length c = search needs

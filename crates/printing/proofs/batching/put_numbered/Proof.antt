@@ -32,7 +32,8 @@ part-put-answer-end c = search needs
 put-answer-requires : tie.Need-put-answer-requires
 put-answer-requires c κs =
     let s = c .before .before .before .before .before .before .before .before in
-    rest-room (s .args .number) (below s) (s .pre) (c .before .before .before .put-line .ensures)
+    let room = rest-room (s .args .number) (below s) (s .pre) (c .before .before .before .put-line .ensures) in
+    (room, omega (arith, room))
 
 add-result : tie.Need-add-result
 add-result c =

@@ -1,0 +1,5 @@
+pub mod PlainLaws
+pub mod CallLaws
+pub mod Editing
+pub mod Rewritten
+pub mod Unique

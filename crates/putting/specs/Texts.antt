@@ -1,0 +1,50 @@
+-- The texts of the parts of a table in memory, each without bytes behind it: those of writer/specs/Writing.antt.
+use mathlib.Core.List.{List, [], _∷_}
+use Prim.Native.Nat.{ℕ, _+_}
+use lib.ListN.{length}
+use Rattle.schedule.specs.Lists.{sum}
+use Rattle.schedule.specs.Table.{Graph}
+use Rattle.format.specs.Bytes.{lineFeed}
+use Rattle.writer.specs.Writing.{listText, headingText, numberText, afterText, nodeText, nodesText, graphText, graphsText, writtenOf}
+use Rattle.memory.specs.declared.plain.PhalandrixNode.{PhalandrixNode}
+use Rattle.memory.specs.declared.plain.PhalandrixGraph.{PhalandrixGraph}
+use Rattle.memory.specs.declared.plain.PhalandrixTable.{PhalandrixTable}
+use Rattle.memory.specs.Plain.{numbersIn, nodeIn, nodesIn, graphIn, graphsIn, tableIn}
+
+abbrev pub heading : ℕ → List ℕ
+heading k = headingText k []
+
+abbrev pub numberLine : ℕ → ℕ → List ℕ
+numberLine k v = numberText k v []
+
+-- of key k and those behind it
+abbrev pub twoLines : ℕ → ℕ → ℕ → List ℕ
+twoLines k a b = numberText k a (numberText (k + 1) b [])
+
+abbrev pub threeLines : ℕ → ℕ → ℕ → ℕ → List ℕ
+threeLines k a b c = numberText k a (numberText (k + 1) b (numberText (k + 2) c []))
+
+-- what stands behind `after=`, with LF
+abbrev pub listEnded : ℕ → List ℕ
+listEnded mask = listText (numbersIn mask) (lineFeed ∷ [])
+
+abbrev pub afterLine : ℕ → List ℕ
+afterLine mask = afterText (numbersIn mask) []
+
+abbrev pub nodeLines : PhalandrixNode → List ℕ
+nodeLines x = nodeText (nodeIn x) []
+
+abbrev pub nodesLines : List PhalandrixNode → ℕ → ℕ → List ℕ
+nodesLines nodes first n = nodesText (nodesIn nodes first n) []
+
+abbrev pub graphLines : PhalandrixGraph → List PhalandrixNode → ℕ → List ℕ
+graphLines g nodes first = graphText (graphIn nodes first g) []
+
+abbrev pub graphsLines : List PhalandrixGraph → List PhalandrixNode → ℕ → List ℕ
+graphsLines graph nodes n = graphsText (graphsIn graph nodes 0 0 n) []
+
+abbrev pub tableLines : PhalandrixTable → List ℕ
+tableLines t = writtenOf (tableIn t)
+
+abbrev pub allNodes : List Graph → ℕ
+allNodes Gs = sum (λ (G : Graph). length (G .nodes)) Gs

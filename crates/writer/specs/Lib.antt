@@ -1,0 +1,4 @@
+pub mod Writing
+pub mod Judging
+pub mod Lengths
+pub mod Cases

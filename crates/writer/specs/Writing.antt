@@ -1,0 +1,55 @@
+-- Writing a table (R-4): the bytes of document 01, line after line, from the same nine keys as the reader. Each text is followed by the
+-- bytes `rest`, as a scanner leaves them.
+use mathlib.Core.List.{List, [], _∷_, _++_}
+use Prim.Native.Nat.{ℕ}
+use lib.ListN.{length}
+use Rattle.format.specs.Bytes.{bytes, lineFeed, equals, comma, decimal}
+use Rattle.format.specs.Keys as Keys
+use Rattle.format.specs.Keys.{keyAt}
+use Rattle.schedule.specs.Table.{Node, Graph, Table}
+
+-- one or more numbers parted by single commas
+unfoldable pub numbersText : ℕ → List ℕ → List ℕ → List ℕ
+numbersText v [] rest = decimal v ++ rest
+numbersText v (w ∷ ws) rest = decimal v ++ (comma ∷ numbersText w ws rest)
+
+-- what stands after `after=`: `none`, or the numbers
+unfoldable pub listText : List ℕ → List ℕ → List ℕ
+listText [] rest = bytes "none" ++ rest
+listText (v ∷ vs) rest = numbersText v vs rest
+
+-- how the line of key k begins
+unfoldable pub headingText : ℕ → List ℕ → List ℕ
+headingText k rest = keyAt k .name ++ (equals ∷ rest)
+
+-- the line of key k with a number, and the `after` line
+unfoldable pub numberText : ℕ → ℕ → List ℕ → List ℕ
+numberText k v rest = headingText k (decimal v ++ (lineFeed ∷ rest))
+
+unfoldable pub afterText : List ℕ → List ℕ → List ℕ
+afterText vs rest = headingText Keys.after (listText vs (lineFeed ∷ rest))
+
+unfoldable pub nodeText : Node → List ℕ → List ℕ
+nodeText x rest = numberText Keys.budget (x .budget) (numberText Keys.level (x .level) (afterText (x .after) rest))
+
+unfoldable pub nodesText : List Node → List ℕ → List ℕ
+nodesText [] rest = rest
+nodesText (x ∷ xs) rest = nodeText x (nodesText xs rest)
+
+-- the three lines before a graph's nodes, and the graph
+unfoldable pub graphHead : ℕ → ℕ → ℕ → List ℕ → List ℕ
+graphHead period offset n rest = numberText Keys.period period (numberText Keys.offset offset (numberText Keys.nodes n rest))
+
+unfoldable pub graphText : Graph → List ℕ → List ℕ
+graphText G rest = graphHead (G .period) (G .offset) (length (G .nodes)) (nodesText (G .nodes) rest)
+
+unfoldable pub graphsText : List Graph → List ℕ → List ℕ
+graphsText [] rest = rest
+graphsText (G ∷ Gs) rest = graphText G (graphsText Gs rest)
+
+-- the three lines before the graphs, and the table
+unfoldable pub tableHead : ℕ → ℕ → ℕ → List ℕ → List ℕ
+tableHead processors rounds n rest = numberText Keys.processors processors (numberText Keys.rounds rounds (numberText Keys.graphs n rest))
+
+unfoldable pub writtenOf : Table → List ℕ
+writtenOf T = tableHead (T .processors) (T .rounds) (length (T .graphs)) (graphsText (T .graphs) [])
