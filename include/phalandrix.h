@@ -88,7 +88,7 @@ enum {
     PHALANDRIX_FIXES_BYTES = 45067,
     /* The bytes of stack that a call needs at most: measured, rounded up, and held by tests/stack.c.
      * It is not proved. */
-    PHALANDRIX_STACK_BYTES = 20480
+    PHALANDRIX_STACK_BYTES = 16384
 };
 
 /* A table in memory, for an editor: plain numbers, and any content may be passed to

@@ -10,6 +10,7 @@ use lib.Seq.{take-suc-set}
 use Rattle.schedule.specs.Limits as Limits
 use Rattle.schedule.specs.Lists.{joined}
 use Rattle.table.specs.declared.Seen.{Seen}
+use Rattle.table.specs.declared.Server.{Server}
 use Rattle.window.specs.declared.Plan.{Plan}
 use Rattle.window.specs.Entries.{places}
 use Rattle.window.specs.Loops.{replaced}
@@ -19,7 +20,7 @@ use Rattle.window.proofs.Fewer.{picks-few}
 use Rattle.writing.specs.declared.row.Run.{Run}
 use Rattle.writing.specs.declared.row.Row.{Row}
 use Rattle.writing.specs.Row.{runningOf, runningIn}
-use Rattle.rows.specs.Showing.{blank, picksOf, runOf, entryOf, rowTo, rowOf}
+use Rattle.rows.specs.Showing.{blank, seenBy, picksOf, runOf, entryOf, rowTo, rowOf}
 use Rattle.rows.proofs.Lists.{joined-last}
 
 -- the lines of the first n entries
@@ -43,16 +44,6 @@ module _ (plan : Plan) (offsets : List ℕ) (st : Seen) (few : plan .processors 
       → Picked (picksOf plan offsets st) m run at
   chosen-row e h = rw e at h
 
-  pub entry-is : (r : ℕ) {m : ℕ} {run at : List ℕ} {x : Run} → Picked (picksOf plan offsets st) m run at
-      → x ≡ runOf plan offsets st (getD run r 0) (getD at r 0) → x ≡ entryOf plan offsets st r
-  entry-is r h e = e ∙ rw (h .1 .0, h .1 .1)
-
-  -- one turn of the loop
-  pub row-more : (r : ℕ) {row : Row} {x : Run} → row ≡ rowTo plan offsets st r → x ≡ entryOf plan offsets st r
-      → _≡_ {A = Row} (record { run = set (row .run) r x; count = row .count }) (rowTo plan offsets st (r + 1))
-  unfolding rowTo replaced
-  row-more r e f = rw (add-one r, e, f)
-
   -- the text of a row is written from no more entries than there can be processors
   pub row-few : rowOf plan offsets st .count ≤ Limits.processors .to
   unfolding rowTo
@@ -62,3 +53,28 @@ module _ (plan : Plan) (offsets : List ℕ) (st : Seen) (few : plan .processors 
       ≡ joined (λ (r : ℕ). runningOf (entryOf plan offsets st r) ∷ []) 0 (picksOf plan offsets st .count)
   unfolding rowTo
   row-lines = lines-of (entryOf plan offsets st) (blank (picksOf plan offsets st .count) .run) (picksOf plan offsets st .count) count-few
+
+-- the row with its first r entries, from what was chosen; the windows are all that an entry needs of the state
+module _ (plan : Plan) (offsets : List ℕ) (servers : List Server) where
+  module _ (run at : List ℕ) where
+    abbrev pub entryBy : ℕ → Run
+    entryBy r = runOf plan offsets (seenBy servers [] []) (getD run r 0) (getD at r 0)
+
+    abbrev pub filled : ℕ → ℕ → Row
+    filled m r = record { run = replaced entryBy (blank m .run) r; count = m }
+
+  module _ (first count : List ℕ) {m : ℕ} {run at : List ℕ} (h : Picked (picksOf plan offsets (seenBy servers first count)) m run at) (r : ℕ) {row : Row}
+      (e : row ≡ filled run at m r) where
+    -- one turn of the loop
+    pub filled-more : {x : Run} → x ≡ entryBy run at r → _≡_ {A = Row} (record { run = set (row .run) r x; count = row .count }) (filled run at m (r + 1))
+    unfolding replaced
+    filled-more f = rw (add-one r, e, f)
+
+    pub filled-is : r ≡ m → row ≡ rowOf plan offsets (seenBy servers first count)
+    unfolding rowTo runOf
+    filled-is f = e ∙ rw (f, h .0, h .1 .0, h .1 .1)
+
+-- the row needs three parts of what a walk shows
+pub row-seen : (plan : Plan) (offsets : List ℕ) (st : Seen) → rowOf plan offsets (seenBy (st .servers) (st .first) (st .count)) ≡ rowOf plan offsets st
+unfolding rowTo runOf
+row-seen plan offsets st = refl

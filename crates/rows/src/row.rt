@@ -1,6 +1,6 @@
 // The row: the server jobs that run, in priority order.
 use crate::run::run_of;
-use table::Seen;
+use table::Server;
 use table::Table;
 use window::Plan;
 use writing::Row;
@@ -26,13 +26,17 @@ pub fn blank(count: usize) -> Row
     }
 }
 
-// A server job is in the row whether it is linked or not.
-pub fn row_of(plan: Plan, offsets: [u32; Table::SERVERS], st: Seen) -> Row
+// A server job is in the row whether it is linked or not. What a walk shows comes in parts, so that no copy of the whole stands beside it.
+pub fn row_of(
+    plan: Plan,
+    offsets: [u32; Table::SERVERS],
+    servers: [Server; Table::SERVERS],
+    first: [u32; Table::SERVERS],
+    count: [u8; Table::SERVERS],
+) -> Row
     requires { ⌜ plan .processors ≤ Limits.processors .to ⌝ }
-    ensures { λ r. ⌜ r ≡ Mirror.rowOf plan offsets st ⌝ }
+    ensures { λ r. ⌜ r ≡ Mirror.rowOf plan offsets (Mirror.seenBy servers first count) ⌝ }
 {
-    let first = st.first;
-    let count = st.count;
     let n = numbers::smaller(plan.nodes, Table::SERVERS);
     let mut run = [Table::NO_KEY; Table::RUNNING];
     let mut at = [0u16; Table::RUNNING];
@@ -49,7 +53,18 @@ pub fn row_of(plan: Plan, offsets: [u32; Table::SERVERS], st: Seen) -> Row
     let mut row = blank(m);
     let mut r: usize = 0;
     while r < m {
-        let x = run_of(plan, offsets, st, run[r], at[r]);
+        let key = run[r];
+        let s = servers[(key % Table::ALL_NODES_TO) as usize];
+        let x = run_of(
+            &plan.graph,
+            &plan.node,
+            &plan.lead,
+            &plan.period,
+            &offsets,
+            s,
+            key,
+            at[r],
+        );
         row.run[r] = x;
         r += 1;
     }

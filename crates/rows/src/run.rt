@@ -1,8 +1,7 @@
 // A running server job from its key, which says its place and its release, and so its number; and from its slot in the window.
 use table::Pending;
-use table::Seen;
+use table::Server;
 use table::Table;
-use window::Plan;
 use writing::Run;
 ghost use mathlib.Core.Path.{_≡_};
 ghost use Prim.Native.Nat.{_-_, _/_};
@@ -38,21 +37,34 @@ pub fn invocation_of(p: Pending, number: u32) -> u32
     if p.linked { job } else { 0 }
 }
 
-// `at` is where the budget left of its slot stands.
-pub fn run_of(plan: Plan, offsets: [u32; Table::SERVERS], st: Seen, key: u32, at: u16) -> Run
-    ensures { λ r. ⌜ r ≡ Mirror.runOf plan offsets st key at ⌝ }
+// A running server job from its four numbers.
+pub fn shown(graph: u8, node: u8, number: u32, invocation: u32) -> Run
+    ensures { λ r. ⌜ r ≡ record { graph = graph; node = node; «server_job» = number; invocation = invocation } ⌝ }
 {
-    let place = (key % Table::ALL_NODES_TO) as usize;
-    let graph = plan.graph[place] as u32;
-    let node = plan.node[place] as u32;
-    let slot = at as usize % Table::WINDOW;
-    let number = number_of(key, plan.lead[place], offsets[place], plan.period[place]);
-    let s = st.servers[place];
-    let invocation = invocation_of(s.jobs[slot], number);
     Run {
-        graph,
-        node,
+        graph: graph as u32,
+        node: node as u32,
         server_job: number,
         invocation,
     }
+}
+
+// The server job with a key, from what stands at its place and from its server's window. `at` is where the budget left of its slot stands.
+pub fn run_of<'a>(
+    graph: &'a [u8; Table::SERVERS],
+    node: &'a [u8; Table::SERVERS],
+    lead: &'a [u32; Table::SERVERS],
+    period: &'a [u32; Table::SERVERS],
+    offsets: &'a [u32; Table::SERVERS],
+    s: Server,
+    key: u32,
+    at: u16,
+) -> Run
+    ensures { λ r. ⌜ r ≡ Mirror.runBy (now (graph .entry)) (now (node .entry)) (now (lead .entry)) (now (period .entry)) (now (offsets .entry)) s key at ⌝ }
+{
+    let place = (key % Table::ALL_NODES_TO) as usize;
+    let slot = at as usize % Table::WINDOW;
+    let number = number_of(key, lead[place], offsets[place], period[place]);
+    let invocation = invocation_of(s.jobs[slot], number);
+    shown(graph[place], node[place], number, invocation)
 }

@@ -3,6 +3,7 @@ pub mod Admissions
 pub mod TableWalks
 pub mod Reports
 pub mod RowCalls
+pub mod Planning
 pub mod ExportLaws
 pub mod TextLengths
 pub mod RowNumbers

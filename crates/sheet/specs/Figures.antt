@@ -17,8 +17,15 @@ sinkOf g = cond (ltb places (g .first) || ltb places (g .nodes)) 0 (g .first + g
 abbrev pub worstAt : List ℕ → ℕ → ℕ
 worstAt worst i = cond (ltb i places) (getD worst i 0) 0
 
+abbrev pub figureIn : List Graph → List ℕ → ℕ → ℕ
+figureIn graph worst g = worstAt worst (sinkOf (getD graph g noGraph))
+
+abbrev pub figuresIn : List Graph → List ℕ → List ℕ
+figuresIn graph worst = replaced (figureIn graph worst) (replicate (Limits.graphs .to) 0) (Limits.graphs .to)
+
+-- of a table in memory
 abbrev pub figureOf : Table → List ℕ → ℕ → ℕ
-figureOf table worst g = worstAt worst (sinkOf (getD (table .graph) g noGraph))
+figureOf table worst = figureIn (table .graph) worst
 
 abbrev pub figuresOf : Table → List ℕ → List ℕ
-figuresOf table worst = replaced (figureOf table worst) (replicate (Limits.graphs .to) 0) (Limits.graphs .to)
+figuresOf table worst = figuresIn (table .graph) worst

@@ -1,7 +1,10 @@
 -- The row of a walk in memory: what `row_walk` answers. For the proof, not for belief.
+use mathlib.Core.List.{List}
+use Prim.Native.Nat.{ℕ}
 use Rattle.format.specs.declared.Refusal.the-variants.{PastTheStop}
 use Rattle.rules.specs.Answers.{Reply, says, refuses, rowText}
 use Rattle.table.specs.declared.Table.{Table}
+use Rattle.window.specs.declared.Plan.{Plan}
 use Rattle.planning.specs.Plans.{planOf}
 use Rattle.planning.specs.Offsets.{offsetsOf}
 use Rattle.window.specs.declared.How.{How}
@@ -17,5 +20,8 @@ rowBy Unsettled row = refuses PastTheStop
 rowBy Backlog row = refuses PastTheStop
 rowBy Reached row = row
 
+abbrev pub rowShown : Plan → List ℕ → Walk → Reply
+rowShown plan offsets w = rowBy (w .how) (says (rowText (runningIn (rowOf plan offsets (w .state)))))
+
 abbrev pub rowReply : Table → Walk → Reply
-rowReply table w = rowBy (w .how) (says (rowText (runningIn (rowOf (planOf table) (offsetsOf table) (w .state)))))
+rowReply table w = rowShown (planOf table) (offsetsOf table) w

@@ -1,4 +1,4 @@
--- The walk of a table in memory: what `walked` computes, and when. For the proof, not for belief.
+-- The walk of a table in memory: what `planned` gives it, what it computes, and when. For the proof, not for belief.
 use Prim.Native.Nat.{ℕ, _+_, _*_, _≤_}
 use Rattle.schedule.specs.Limits as Limits
 use Rattle.schedule.specs.Walk.{Stop, settled, unsettled, backlog}
@@ -9,6 +9,21 @@ use Rattle.window.specs.declared.How.{How}
 use Rattle.window.specs.declared.How.the-variants.{Settled, Unsettled, Backlog, Reached}
 use Rattle.window.specs.declared.Walk.{Walk}
 use Rattle.window.specs.Walking.{walkOf}
+use Rattle.sheet.specs.declared.plans.Laid.{Laid}
+
+-- what a call needs of a table in memory
+abbrev pub plannedOf : Admitted → Laid
+plannedOf a =
+    record {
+      plan = planOf (a .table);
+      offsets = offsetsOf (a .table);
+      origin = largestOffsetOf (a .table);
+      hyperperiod = a .hyperperiod;
+      rounds = a .table .rounds;
+      graphs = a .table .graphs;
+      graph = a .table .graph;
+      verdict = a .verdict;
+    }
 
 -- what the walk asks of a table
 pub record Walkable (a : Admitted) : Type 0 where

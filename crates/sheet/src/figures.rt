@@ -29,13 +29,16 @@ pub fn worst_at(worst: &[u32; Table::SERVERS], i: usize) -> u32
     0
 }
 
-pub fn figures_of(table: Table, worst: [u32; Table::SERVERS]) -> [u32; Table::GRAPHS]
-    ensures { λ r. ⌜ r ≡ Mirror.figuresOf table worst ⌝ }
+pub fn figures_of(
+    graph: [Graph; Table::GRAPHS],
+    worst: [u32; Table::SERVERS],
+) -> [u32; Table::GRAPHS]
+    ensures { λ r. ⌜ r ≡ Mirror.figuresIn graph worst ⌝ }
 {
     let mut f = [0u32; Table::GRAPHS];
     let mut g: usize = 0;
     while g < Table::GRAPHS {
-        f[g] = worst_at(&worst, sink_of(table.graph[g]));
+        f[g] = worst_at(&worst, sink_of(graph[g]));
         g += 1;
     }
     f

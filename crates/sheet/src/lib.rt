@@ -1,9 +1,9 @@
 // The public calls: the report of a table, and its row at an instant; from Rattle, and from C.
 mod exports;
 mod figures;
+mod plans;
 mod reporting;
 mod rowing;
-mod walks;
 
 pub use exports::PhalandrixAnswer;
 pub use exports::phalandrix_report;

@@ -1,9 +1,10 @@
 // The report of a table: the walk to its stop, and the text of its figures in the lent buffer.
 use crate::figures::figures_of;
-use crate::walks::walked;
+use crate::plans::planned;
 use admission::Verdict;
 use format::Refusal;
 use rules::Answer;
+use table::Graph;
 use table::Table;
 use window::How;
 use window::Walk;
@@ -14,7 +15,7 @@ ghost use Rattle.schedule.specs.Limits as Limits;
 ghost use Rattle.rules.specs.Answers.{says, reportText, reportOn, reportOf, callOf};
 ghost use Rattle.rules.specs.AnswerNumbers.{answerNumber};
 ghost use Rattle.rules.specs.Demands.{TrueReport};
-ghost use Rattle.sheet.specs.Figures.{figuresOf};
+ghost use Rattle.sheet.specs.Figures.{figuresIn};
 ghost use Rattle.sheet.specs.Walks.{stopOf};
 ghost use Rattle.sheet.specs.Calls.{called};
 
@@ -37,16 +38,21 @@ pub fn put_settled(
     Answer::Text(n)
 }
 
-pub fn report_walk(table: Table, w: Walk, buffer: &mut [u8]) -> Answer
-    requires { ⌜ table .graphs ≤ Limits.graphs .to ⌝ }
-    ensures { λ r. ⌜ called r (now (buffer .exit)) ≡ callOf (now (buffer .entry)) (reportOn (stopOf (w .how)) (w .ticks) (take (table .graphs) (figuresOf table (w .state .worst)))) ⌝ }
+pub fn report_walk(
+    graph: [Graph; Table::GRAPHS],
+    graphs: usize,
+    w: Walk,
+    buffer: &mut [u8],
+) -> Answer
+    requires { ⌜ graphs ≤ Limits.graphs .to ⌝ }
+    ensures { λ r. ⌜ called r (now (buffer .exit)) ≡ callOf (now (buffer .entry)) (reportOn (stopOf (w .how)) (w .ticks) (take graphs (figuresIn graph (w .state .worst)))) ⌝ }
 {
     let how = w.how;
     match how {
         How::Settled(k) => {
             let st = w.state;
             let worst = st.worst;
-            put_settled(buffer, k, w.ticks, figures_of(table, worst), table.graphs)
+            put_settled(buffer, k, w.ticks, figures_of(graph, worst), graphs)
         }
         How::Backlog => Answer::Refused(Refusal::Backlog),
         How::Unsettled => Answer::Refused(Refusal::Unsettled),
@@ -59,10 +65,15 @@ pub fn report(table: &[u8], buffer: &mut [u8]) -> Answer
     ensures call { λ r. ⌜ called r (now (buffer .exit)) ≡ callOf (now (buffer .entry)) (reportOf (now (table .entry))) ⌝ }
     ensures least_true { λ r. ⌜ (answerNumber r ≡ 0 → TrueReport (now (table .entry))) ⌝ }
 {
-    let a = admission::admit(table);
-    let verdict = a.verdict;
+    let p = planned(table);
+    let verdict = p.verdict;
     match verdict {
         Verdict::Refused(r) => Answer::Refused(r),
-        Verdict::Passed => report_walk(a.table, walked(a, u32::MAX), buffer),
+        Verdict::Passed => {
+            let offsets = p.offsets;
+            let graph = p.graph;
+            let w = walking::walk_to(p.plan, offsets, p.origin, p.hyperperiod, p.rounds, u32::MAX);
+            report_walk(graph, p.graphs, w, buffer)
+        }
     }
 }

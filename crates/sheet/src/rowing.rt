@@ -1,21 +1,21 @@
 // The row of a table at an instant: the walk to that instant, and the text of what runs there in the lent buffer.
-use crate::walks::walked;
+use crate::plans::planned;
 use admission::Verdict;
 use format::Refusal;
 use rules::Answer;
 use table::Table;
 use window::How;
+use window::Plan;
 use window::Walk;
 use writing::Row;
 ghost use mathlib.Core.Path.{_≡_};
 ghost use Prim.Native.Nat.{_≤_, min};
 ghost use Rattle.schedule.specs.Limits as Limits;
 ghost use Rattle.rules.specs.Answers.{says, rowText, rowOf, callOf};
-ghost use Rattle.planning.specs.Plans.{planOf};
 ghost use Rattle.window.specs.Entries.{lastKey};
 ghost use Rattle.writing.specs.Row.{runningIn};
 ghost use Rattle.sheet.specs.Calls.{called};
-ghost use Rattle.sheet.specs.Rows.{rowReply};
+ghost use Rattle.sheet.specs.Rows.{rowShown};
 
 // An instant past every stop stands for all that are later.
 pub fn near(instant: u64) -> u32
@@ -42,17 +42,18 @@ pub fn put_running(buffer: &mut [u8], row: Row) -> Answer
 }
 
 // A walk that stopped before it came to the instant asked is refused as 9.
-pub fn row_walk(table: Table, w: Walk, buffer: &mut [u8]) -> Answer
-    requires { ⌜ planOf table .processors ≤ Limits.processors .to ⌝ }
-    ensures { λ r. ⌜ called r (now (buffer .exit)) ≡ callOf (now (buffer .entry)) (rowReply table w) ⌝ }
+pub fn row_walk(plan: Plan, offsets: [u32; Table::SERVERS], w: Walk, buffer: &mut [u8]) -> Answer
+    requires { ⌜ plan .processors ≤ Limits.processors .to ⌝ }
+    ensures { λ r. ⌜ called r (now (buffer .exit)) ≡ callOf (now (buffer .entry)) (rowShown plan offsets w) ⌝ }
 {
     let how = w.how;
     match how {
         How::Reached => {
             let st = w.state;
-            let plan = planning::plan_of(table);
-            let offsets = planning::offsets_of(table);
-            put_running(buffer, rows::row_of(plan, offsets, st))
+            let servers = st.servers;
+            let first = st.first;
+            let count = st.count;
+            put_running(buffer, rows::row_of(plan, offsets, servers, first, count))
         }
         How::Settled(_) => Answer::Refused(Refusal::PastTheStop),
         How::Unsettled => Answer::Refused(Refusal::PastTheStop),
@@ -64,10 +65,15 @@ pub fn row_walk(table: Table, w: Walk, buffer: &mut [u8]) -> Answer
 pub fn row(table: &[u8], instant: u64, buffer: &mut [u8]) -> Answer
     ensures { λ r. ⌜ called r (now (buffer .exit)) ≡ callOf (now (buffer .entry)) (rowOf (now (table .entry)) instant) ⌝ }
 {
-    let a = admission::admit(table);
-    let verdict = a.verdict;
+    let p = planned(table);
+    let verdict = p.verdict;
     match verdict {
         Verdict::Refused(r) => Answer::Refused(r),
-        Verdict::Passed => row_walk(a.table, walked(a, near(instant)), buffer),
+        Verdict::Passed => {
+            let offsets = p.offsets;
+            let asked = near(instant);
+            let w = walking::walk_to(p.plan, offsets, p.origin, p.hyperperiod, p.rounds, asked);
+            row_walk(p.plan, offsets, w, buffer)
+        }
     }
 }

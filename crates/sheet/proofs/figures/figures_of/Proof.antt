@@ -7,15 +7,15 @@ use borrow.Author.Needs.{needs}
 use Rattle.schedule.specs.Limits as Limits
 use Rattle.window.specs.Loops.{replaced}
 use Rattle.window.proofs.LoopLaws.{replaced-more}
-use Rattle.sheet.specs.Figures.{worstAt, figureOf}
+use Rattle.sheet.specs.Figures.{worstAt, figureIn}
 use Rattle.sheet.proofs.figures.figures_of.Statement.{statement}
 use Rattle.sheet.proofs.figures.figures_of.Tie as tie
 
 abbrev Inv-loop : tie.InvT-loop
-Inv-loop table worst f₀ g₀ f g = (g ≤ Limits.graphs .to) × (f ≡ replaced (figureOf table worst) (replicate (Limits.graphs .to) 0) g)
+Inv-loop graph worst f₀ g₀ f g = (g ≤ Limits.graphs .to) × (f ≡ replaced (figureIn graph worst) (replicate (Limits.graphs .to) 0) g)
 
 abbrev μ-loop : tie.MeasureT-loop
-μ-loop table worst f₀ g₀ f g = Limits.graphs .to - g
+μ-loop graph worst f₀ g₀ f g = Limits.graphs .to - g
 
 loop-holds : tie.Need-loop-holds Inv-loop μ-loop
 unfolding replaced
@@ -24,8 +24,8 @@ loop-holds c = (search needs, refl)
 mul-sink-of : tie.Need-mul-sink-of Inv-loop μ-loop
 mul-sink-of c = search needs
 
-element-copy-out-sink-of : tie.Need-element-copy-out-sink-of Inv-loop μ-loop
-element-copy-out-sink-of c = search needs
+array-copy-out-sink-of : tie.Need-array-copy-out-sink-of Inv-loop μ-loop
+array-copy-out-sink-of c = search needs
 
 sink-of-requires : tie.Need-sink-of-requires Inv-loop μ-loop
 sink-of-requires c κs = search needs
@@ -50,7 +50,7 @@ loop-again c =
     let L = c .before .before .before .before .before in
     let A = L .before .args in (
       search needs,
-      replaced-more (figureOf (A .t1) (A .t2)) (replicate (Limits.graphs .to) 0) (L .loop .g) (L .loop .inv .1)
+      replaced-more (figureIn (A .t1) (A .t2)) (replicate (Limits.graphs .to) 0) (L .loop .g) (L .loop .inv .1)
           (c .worst-at .ensures ∙ ap (worstAt (A .t2)) (c .before .sink-of .ensures)),
     )
 
@@ -65,7 +65,7 @@ figures-of-spec =
     μ-loop
     loop-holds
     mul-sink-of
-    element-copy-out-sink-of
+    array-copy-out-sink-of
     sink-of-requires
     worst-at-requires
     mul-f

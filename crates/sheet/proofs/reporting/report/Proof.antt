@@ -4,14 +4,14 @@ use Rattle.rules.specs.Answers.{Call, callOf}
 use Rattle.rules.specs.AnswerNumbers.{answerNumber}
 use Rattle.rules.proofs.TrueReports.{an-answered-report-is-true}
 use Rattle.sheet.proofs.CallLaws.{refused-call}
-use Rattle.sheet.proofs.Admissions.{passes, is-refused}
-use Rattle.sheet.proofs.Reports.{passed-walkable, passed-few, passed-report, refused-report}
+use Rattle.sheet.proofs.Reports.{refused-report}
+use Rattle.sheet.proofs.Planning.{planned-refused, planned-walkable, planned-few, planned-report}
 use borrow.Author.Needs.{needs}
 use Rattle.sheet.proofs.reporting.report.Statement.{statement}
 use Rattle.sheet.proofs.reporting.report.Tie as tie
 
-admit-requires : tie.Need-admit-requires
-admit-requires c κs = search needs
+planned-requires : tie.Need-planned-requires
+planned-requires c κs = search needs
 
 enum-known-verdict : tie.Need-enum-known-verdict
 enum-known-verdict c = search needs
@@ -19,20 +19,18 @@ enum-known-verdict c = search needs
 enum-told : tie.Need-enum-told
 enum-told c = search needs
 
-walked-requires : tie.Need-walked-requires
-walked-requires c κs =
-    let A = c .before .before in
-    passed-walkable _ _ (passes _ (A .admit .result) (A .admit .ensures) (c .enum-told .given .1))
+walk-to-requires : tie.Need-walk-to-requires
+walk-to-requires c κs = let P = c .before .before .before .before in planned-walkable _ (P .planned .result) (P .planned .ensures) (c .before .before .enum-told .given .1)
 
 report-walk-requires : tie.Need-report-walk-requires
 report-walk-requires c κs =
-    let A = c .before .before .before .before in
-    passed-few _ _ (passes _ (A .admit .result) (A .admit .ensures) (c .before .before .enum-told .given .1))
+    let P = c .before .before .before .before .before .before in
+    planned-few _ (P .planned .result) (P .planned .ensures) (c .before .before .before .before .enum-told .given .1)
 
 returns : tie.Need-returns
 returns c =
-    let A = c .before .before .before in
-    let e = refused-call _ _ ∙ ap (callOf _) (sym (refused-report _ _ (is-refused _ (A .admit .result) (A .admit .ensures) _ (c .before .verdict .given .1)))) in
+    let P = c .before .before .before in
+    let e = refused-call _ _ ∙ ap (callOf _) (sym (refused-report _ _ (planned-refused _ (P .planned .result) (P .planned .ensures) _ (c .before .verdict .given .1)))) in
     (e, λ z. an-answered-report-is-true _ _ (ap (λ (k : Call). answerNumber (k .answer)) (sym e) ∙ z))
 
 same-length : tie.Need-same-length
@@ -40,19 +38,19 @@ same-length c = search needs
 
 returns-2 : tie.Need-returns-2
 returns-2 c =
-    let A = c .before .before .before .before .before .before .before in
-    let p = passes _ (A .admit .result) (A .admit .ensures) (c .before .before .before .before .before .enum-told .given .1) in
-    let e = c .before .before .report-walk .ensures ∙ ap (callOf _) (passed-report _ (A .admit .result) p (c .before .before .before .before .walked .result) (c .before .before .before .before .walked .ensures)) in
+    let P = c .before .before .before .before .before .before .before .before .before in
+    let e = c .before .before .report-walk .ensures
+    ∙ ap (callOf _) (planned-report _ (P .planned .result) (P .planned .ensures) (c .before .before .before .before .before .before .before .enum-told .given .1) (c .before .before .before .before .walk-to .result) (c .before .before .before .before .walk-to .ensures)) in
     (e, λ z. an-answered-report-is-true _ _ (ap (λ (k : Call). answerNumber (k .answer)) (sym e) ∙ z))
 
 pub report-spec : {M : Type 1} → statement M
 report-spec =
     tie.close
     (tie.spec
-    admit-requires
+    planned-requires
     enum-known-verdict
     enum-told
-    walked-requires
+    walk-to-requires
     report-walk-requires
     returns
     same-length

@@ -1,17 +1,17 @@
 -- `row` meets its contract: what was read passed or was refused, and so are the bytes.
 use mathlib.Core.Path.{sym, ap, _∙_}
+use Prim.Native.Nat.{ℕ}
 use Rattle.rules.specs.Answers.{callOf}
-use Rattle.sheet.specs.Walks.{walkOfTable}
+use Rattle.window.specs.Walking.{walkOf}
 use Rattle.sheet.proofs.CallLaws.{refused-call}
-use Rattle.sheet.proofs.Admissions.{passes, is-refused}
-use Rattle.sheet.proofs.Reports.{passed-walkable}
-use Rattle.sheet.proofs.RowCalls.{passed-row, refused-row}
+use Rattle.sheet.proofs.RowCalls.{refused-row}
+use Rattle.sheet.proofs.Planning.{planned-refused, planned-walkable, planned-row}
 use borrow.Author.Needs.{needs}
 use Rattle.sheet.proofs.rowing.row.Statement.{statement}
 use Rattle.sheet.proofs.rowing.row.Tie as tie
 
-admit-requires : tie.Need-admit-requires
-admit-requires c κs = search needs
+planned-requires : tie.Need-planned-requires
+planned-requires c κs = search needs
 
 enum-known-verdict : tie.Need-enum-known-verdict
 enum-known-verdict c = search needs
@@ -22,40 +22,42 @@ enum-told c = search needs
 near-requires : tie.Need-near-requires
 near-requires c κs = search needs
 
-walked-requires : tie.Need-walked-requires
-walked-requires c κs =
-    let A = c .before .before .before in
-    passed-walkable _ _ (passes _ (A .admit .result) (A .admit .ensures) (c .before .enum-told .given .1))
+walk-to-requires : tie.Need-walk-to-requires
+walk-to-requires c κs = let P = c .before .before .before .before in planned-walkable _ (P .planned .result) (P .planned .ensures) (c .before .before .enum-told .given .1)
 
 row-walk-requires : tie.Need-row-walk-requires
 row-walk-requires c κs =
-    let A = c .before .before .before .before .before in
-    passed-walkable _ _ (passes _ (A .admit .result) (A .admit .ensures) (c .before .before .before .enum-told .given .1)) .processors-most
+    let P = c .before .before .before .before .before .before in
+    planned-walkable _ (P .planned .result) (P .planned .ensures) (c .before .before .before .before .enum-told .given .1) .0
 
 returns : tie.Need-returns
 returns c =
-    let A = c .before .before .before in
-    refused-call _ _ ∙ ap (callOf _) (sym (refused-row _ _ _ (is-refused _ (A .admit .result) (A .admit .ensures) _ (c .before .verdict .given .1))))
+    let P = c .before .before .before in
+    refused-call _ _ ∙ ap (callOf _) (sym (refused-row _ _ _ (planned-refused _ (P .planned .result) (P .planned .ensures) _ (c .before .verdict .given .1))))
 
 same-length : tie.Need-same-length
 same-length c = search needs
 
 returns-2 : tie.Need-returns-2
 returns-2 c =
-    let A = c .before .before .before .before .before .before .before .before in
-    let p = passes _ (A .admit .result) (A .admit .ensures) (c .before .before .before .before .before .before .enum-told .given .1) in
+    let P = c .before .before .before .before .before .before .before .before .before in
+    let p = P .planned .result in
     let W = c .before .before .before .before in
-    c .before .before .row-walk .ensures ∙ ap (callOf _) (passed-row _ (A .admit .result) p _ (W .walked .result) (W .walked .ensures ∙ ap (walkOfTable (A .admit .result)) (c .before .before .before .before .before .near .ensures)))
+    let near = c .before .before .before .before .before .near .ensures in
+    c .before .before .row-walk .ensures
+    ∙ ap (callOf _)
+    (planned-row _ p (P .planned .ensures) (c .before .before .before .before .before .before .before .enum-told .given .1) _ (W .walk-to .result)
+    (W .walk-to .ensures ∙ ap (λ (asked : ℕ). walkOf (p .plan) (p .offsets) (p .origin) (p .hyperperiod) (p .rounds) asked) near))
 
 pub row-spec : {M : Type 1} → statement M
 row-spec =
     tie.close
     (tie.spec
-    admit-requires
+    planned-requires
     enum-known-verdict
     enum-told
     near-requires
-    walked-requires
+    walk-to-requires
     row-walk-requires
     returns
     same-length

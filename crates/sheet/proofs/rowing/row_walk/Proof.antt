@@ -1,6 +1,9 @@
 -- `row_walk` meets its contract, by how the walk ended.
-use mathlib.Core.Path.{_∙_}
-use Rattle.rows.proofs.Entries.{row-few}
+use mathlib.Core.Path.{ap, _∙_}
+use Rattle.rules.specs.Answers.{says, rowText, callOf}
+use Rattle.writing.specs.declared.row.Row.{Row}
+use Rattle.writing.specs.Row.{runningIn}
+use Rattle.rows.proofs.Entries.{row-few, row-seen}
 use Rattle.sheet.proofs.CallLaws.{refused-call}
 use borrow.Author.Needs.{needs}
 use Rattle.sheet.proofs.rowing.row_walk.Statement.{statement}
@@ -9,18 +12,11 @@ use Rattle.sheet.proofs.rowing.row_walk.Tie as tie
 enum-told : tie.Need-enum-told
 enum-told c = search needs
 
-plan-of-requires : tie.Need-plan-of-requires
-plan-of-requires c κs = search needs
-
-offsets-of-requires : tie.Need-offsets-of-requires
-offsets-of-requires c κs = search needs
-
 row-of-requires : tie.Need-row-of-requires
-row-of-requires c κs = rw (c .before .before .plan-of .ensures) (c .before .before .before .before .before .before .before .pre)
+row-of-requires c κs = c .before .before .before .before .before .before .before .before .pre
 
 put-running-requires : tie.Need-put-running-requires
-put-running-requires c κs =
-    rw (c .row-of .ensures, c .before .before .before .plan-of .ensures) (row-few _ _ _ (c .before .before .before .before .before .before .before .before .pre))
+put-running-requires c κs = rw (c .row-of .ensures) (row-few _ _ _ (c .before .before .before .before .before .before .before .before .before .pre))
 
 enum-told-2 : tie.Need-enum-told-2
 enum-told-2 c = search needs
@@ -36,8 +32,10 @@ same-length c = search needs
 
 returns : tie.Need-returns
 returns c =
-    rw (c .before .before .before .before .before .before .before .before .enum-told .given .1)
-    (c .before .before .put-running .ensures ∙ rw (c .before .before .before .row-of .ensures, c .before .before .before .before .before .before .plan-of .ensures, c .before .before .before .before .before .offsets-of .ensures))
+    let a = c .before .before .before .before .before .before .before .before .before .before .before .before .args in
+    rw (c .before .before .before .before .before .before .before .before .before .enum-told .given .1)
+    (c .before .before .put-running .ensures
+    ∙ ap (callOf _) (ap (λ (x : Row). says (rowText (runningIn x))) (c .before .before .before .row-of .ensures ∙ row-seen (a .plan) (a .offsets) (a .w .state))))
 
 returns-2 : tie.Need-returns-2
 returns-2 c = rw (c .enum-told2 .given .1) (refused-call _ _)
@@ -53,8 +51,6 @@ row-walk-spec =
     tie.close
     (tie.spec
     enum-told
-    plan-of-requires
-    offsets-of-requires
     row-of-requires
     put-running-requires
     enum-told-2
