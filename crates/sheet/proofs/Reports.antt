@@ -57,7 +57,7 @@ module _ (bytes : List ℕ) (U : Table) (e : admissionOf bytes ≡ admitted U) w
   unfolding reportOf walked
   report-same =
       let s = at-stop in
-      rw (s .how, s .ticks, s .shows, stop-of (stop (boxOf U) .how), figures-are U ok short (stop (boxOf U) .ticks) (s .state) (s .in-step), e)
+      rw (s .how, s .ticks, s .shows, stop-of (stop (boxOf U) .how), figures-are U ok short (stop (boxOf U) .ticks) (s .state .worst) (λ i h. s .in-step .row i h .worst), e)
 
 module _ (bytes : List ℕ) (r : Admitted) (p : Passes bytes r) where
   pub passed-walkable : Walkable r

@@ -18,11 +18,9 @@ use Rattle.rules.specs.Admission.{admitted}
 use Rattle.schedule.specs.WellFormed.{wellFormed}
 use Rattle.theorems.proofs.TableBox.{length-sinks, server-fits, sink-is}
 use Rattle.table.specs.Fresh as Fresh
-use Rattle.table.specs.declared.State.{State}
 use Rattle.table.specs.declared.Table.{Table as Memory}
 use Rattle.window.specs.Entries.{places}
 use Rattle.window.proofs.Loops.{replaced-length, replaced-in}
-use Rattle.window.proofs.Relation.{InStep}
 use Rattle.reading.specs.Memory.{memoryOf}
 use Rattle.admission.specs.Admission.{codedAdmission}
 use Rattle.admission.specs.declared.admitting.Admitted.{Admitted}
@@ -91,31 +89,31 @@ module _ (U : Table) (ok : T (wellFormed U)) (short : hyperperiod U ≤ Limits.h
       (offsets-sized U ok) (offsets-fit U ok) asked)
 
   -- the figures
-  module _ (t : ℕ) (st : State) (now : InStep X t st) where
+  module _ (t : ℕ) (worst : List ℕ) (each : (i : ℕ) → i < length (X .servers) → getD worst i 0 ≡ figure X (whole (X .servers)) i t) where
     sink-of : (g : ℕ) → g < length (U .graphs) → sinkOf (codedGraph (firstOf (U .graphs) g) (graphAt (U .graphs) g)) ≡ getD (X .sinks) g 0
     sink-of g h =
         let fits : firstOf (U .graphs) g + length (graphAt (U .graphs) g .nodes) ≤ places = omega (arith, first-within (U .graphs) g h, room U ok) in
         rw (le-ltb places (firstOf (U .graphs) g) (omega arith), le-ltb places (length (graphAt (U .graphs) g .nodes)) (omega arith))
         (omega (arith, sink-place 0 (U .graphs) g h))
 
-    figure-is : (g : ℕ) → g < length (U .graphs) → figureOf M (st .worst) g ≡ figure X (whole (X .servers)) (getD (X .sinks) g 0) t
+    figure-is : (g : ℕ) → g < length (U .graphs) → figureOf M worst g ≡ figure X (whole (X .servers)) (getD (X .sinks) g 0) t
     figure-is g h =
         let (in-list, in-S, budget) = sink-is U ok g h in
         let small = plan-fits U ok .small in
-        rw (laid U ok .graph g h, sink-of g h, lt-ltb (getD (X .sinks) g 0) places (omega arith)) (now .row (getD (X .sinks) g 0) in-S .worst)
+        rw (laid U ok .graph g h, sink-of g h, lt-ltb (getD (X .sinks) g 0) places (omega arith)) (each (getD (X .sinks) g 0) in-S)
 
-    pub figures-are : take (M .graphs) (figuresOf M (st .worst)) ≡ figures X (whole (X .servers)) t
+    pub figures-are : take (M .graphs) (figuresOf M worst) ≡ figures X (whole (X .servers)) t
     unfolding figures
     figures-are =
         let zeros : List ℕ = replicate (Limits.graphs .to) 0 in
-        let long : length (figuresOf M (st .worst)) ≡ Limits.graphs .to = replaced-length (figureOf M (st .worst)) zeros (Limits.graphs .to) in
-        let cut : length (take (M .graphs) (figuresOf M (st .worst))) ≡ M .graphs = length-take-le (M .graphs) (figuresOf M (st .worst)) (omega (arith, few-graphs)) in
+        let long : length (figuresOf M worst) ≡ Limits.graphs .to = replaced-length (figureOf M worst) zeros (Limits.graphs .to) in
+        let cut : length (take (M .graphs) (figuresOf M worst)) ≡ M .graphs = length-take-le (M .graphs) (figuresOf M worst) (omega (arith, few-graphs)) in
         let whole-length : length (map (λ (i : ℕ). figure X (whole (X .servers)) i t) (X .sinks)) ≡ length (U .graphs) =
         length-map (X .sinks) (λ (i : ℕ). figure X (whole (X .servers)) i t) ∙ length-sinks 0 (U .graphs) in
-        ext-getD 0 (take (M .graphs) (figuresOf M (st .worst))) (map (λ (i : ℕ). figure X (whole (X .servers)) i t) (X .sinks)) (omega (arith, graphs-are))
+        ext-getD 0 (take (M .graphs) (figuresOf M worst)) (map (λ (i : ℕ). figure X (whole (X .servers)) i t) (X .sinks)) (omega (arith, graphs-are))
         (λ g h.
         let inside : g < length (U .graphs) = omega (arith, graphs-are) in
-        getD-take (M .graphs) (figuresOf M (st .worst)) g 0 (omega arith)
-        ∙ replaced-in (figureOf M (st .worst)) zeros (Limits.graphs .to) g 0 (omega (arith, few-graphs)) (omega arith)
+        getD-take (M .graphs) (figuresOf M worst) g 0 (omega arith)
+        ∙ replaced-in (figureOf M worst) zeros (Limits.graphs .to) g 0 (omega (arith, few-graphs)) (omega arith)
         ∙ figure-is g inside
         ∙ sym (getD-map (λ (i : ℕ). figure X (whole (X .servers)) i t) (X .sinks) g 0 0 (omega (arith, length-sinks 0 (U .graphs)))))

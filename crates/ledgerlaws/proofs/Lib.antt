@@ -1,0 +1,14 @@
+pub mod Changed
+pub mod Relation
+pub mod Releasing
+pub mod Backlog
+pub mod Ranks
+pub mod Running
+pub mod Finishing
+pub mod Forming
+pub mod Comparing
+pub mod OneRank
+pub mod Fresh
+pub mod Ends
+pub mod Walked
+pub mod Shown

@@ -1,0 +1,5 @@
+pub mod Points
+pub mod TableWalks
+pub mod Reports
+pub mod RowCalls
+pub mod EnginesAgree
