@@ -11,8 +11,8 @@
  * memcpy and memset and nothing else.
  *
  * Time: a call walks at most 1,290,000 ticks for a table. The longest walks took 0.01 to 0.06 seconds
- * where they were measured (docs/BENCHMARK.md); that is not proved. Stack: PHALANDRIX_STACK_BYTES,
- * below.
+ * where they were measured, and some 2 seconds by the plain engine (docs/BENCHMARK.md); that is not
+ * proved. Stack: PHALANDRIX_STACK_BYTES and PHALANDRIX_PLAIN_STACK_BYTES, below.
  *
  * This file is the home of the version, of the sentences for people, and of the sizes below: ./run
  * and the Rust package read them from here.
@@ -90,7 +90,9 @@ enum {
     PHALANDRIX_MARGIN_BYTES = 364,
     /* The bytes of stack that a call needs at most: measured, rounded up, and held by tests/stack.c.
      * It is not proved. */
-    PHALANDRIX_STACK_BYTES = 16384
+    PHALANDRIX_STACK_BYTES = 16384,
+    /* The same for the two calls of the plain engine. */
+    PHALANDRIX_PLAIN_STACK_BYTES = 65536
 };
 
 /* A table in memory, for an editor: plain numbers, and any content may be passed to
@@ -148,6 +150,15 @@ phalandrix_answer phalandrix_report(const uint8_t *table, size_t table_length,
  * priority order; invocation 0 for one that is not linked; no text for an idle tick. */
 phalandrix_answer phalandrix_row(const uint8_t *table, size_t table_length, uint64_t instant,
                                  uint8_t *buffer, size_t buffer_length);
+
+/* The same report and row by the plain engine, which goes tick by tick in the order of the rules: the
+ * answer and every byte of the buffer are those of the calls above; this is proved. It takes longer
+ * (docs/BENCHMARK.md) and PHALANDRIX_PLAIN_STACK_BYTES of stack. */
+phalandrix_answer phalandrix_plain_report(const uint8_t *table, size_t table_length,
+                                          uint8_t *buffer, size_t buffer_length);
+
+phalandrix_answer phalandrix_plain_row(const uint8_t *table, size_t table_length, uint64_t instant,
+                                       uint8_t *buffer, size_t buffer_length);
 
 /* number, line, column and in_limits 0 and the length of the text; or the number of a refusal, its line
  * and column, and length 0. in_limits is 1 where the refusal is of the limit text, so that its line and

@@ -66,6 +66,39 @@ static phalandrix_answer row_in(uint8_t *buffer, uint64_t instant, size_t room)
     return phalandrix_row((const uint8_t *)table, strlen(table), instant, buffer, room);
 }
 
+static phalandrix_answer plain_report_in(uint8_t *buffer, const char *bytes, size_t room)
+{
+    memset(buffer, UNTOUCHED, ROOM);
+    return phalandrix_plain_report((const uint8_t *)bytes, strlen(bytes), buffer, room);
+}
+
+static phalandrix_answer plain_row_in(uint8_t *buffer, uint64_t instant, size_t room)
+{
+    memset(buffer, UNTOUCHED, ROOM);
+    return phalandrix_plain_row((const uint8_t *)table, strlen(table), instant, buffer, room);
+}
+
+/* The plain engine: what the first one gives. */
+static void plain_calls(void)
+{
+    uint8_t b[ROOM];
+    size_t n = strlen(report);
+
+    expect("plain report", plain_report_in(b, table, ROOM), b, PHALANDRIX_ANSWERED, 0, report);
+    expect("plain report that just fits", plain_report_in(b, table, n), b, PHALANDRIX_ANSWERED, 0, report);
+    expect("plain report one byte too long", plain_report_in(b, table, n - 1), b, PHALANDRIX_SHORT_BUFFER, 0, "");
+    expect("plain report past a limit", plain_report_in(b, "processors=1\nrounds=0\n", ROOM), b,
+           PHALANDRIX_OUTSIDE_LIMITS, 2, "");
+    expect("plain report of a node that cannot keep up", plain_report_in(b, too_slow, ROOM), b,
+           PHALANDRIX_CANNOT_KEEP_UP, 0, "");
+    expect("plain row at 4", plain_row_in(b, 4, ROOM), b, PHALANDRIX_ANSWERED, 0, row);
+    expect("plain row at the stop", plain_row_in(b, 8, ROOM), b, PHALANDRIX_PAST_THE_STOP, 0, "");
+    expect("plain row past 2^32", plain_row_in(b, UINT64_MAX, ROOM), b, PHALANDRIX_PAST_THE_STOP, 0, "");
+    expect("plain row in no buffer", plain_row_in(b, 4, 0), b, PHALANDRIX_SHORT_BUFFER, 0, "");
+    memset(b, UNTOUCHED, ROOM);
+    expect("nothing at all, plain", phalandrix_plain_report(NULL, 0, NULL, 0), b, PHALANDRIX_MISSPELLED, 1, "");
+}
+
 /* One salvage: its answer, both outputs, and untouched bytes behind them. */
 static void expect_salvage(const char *name, const char *given, size_t text_room, size_t list_room,
                            uint32_t number, const char *text, const char *list)
@@ -235,6 +268,7 @@ int main(void)
     expect("row in no buffer", row_in(b, 4, 0), b, PHALANDRIX_SHORT_BUFFER, 0, "");
     memset(b, UNTOUCHED, ROOM);
     expect("nothing at all", phalandrix_report(NULL, 0, NULL, 0), b, PHALANDRIX_MISSPELLED, 1, "");
+    plain_calls();
     salvages();
     margins();
     expect_batches();

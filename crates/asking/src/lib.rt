@@ -4,6 +4,7 @@ mod files;
 mod instants;
 mod lengths;
 mod outputs;
+mod plains;
 mod questions;
 mod rewrites;
 
