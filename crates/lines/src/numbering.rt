@@ -3,7 +3,7 @@
 use crate::judging::AFTER;
 use crate::judging::Line;
 use crate::judging::ThreeLines;
-use crate::judging::line_from;
+use crate::reader::line_at;
 use crate::reader::three_lines;
 use format::Refusal;
 ghost use mathlib.Core.Path.{_≡_};
@@ -136,6 +136,6 @@ pub fn one_at(s: &[u8], place: Place, k: usize) -> LineRead
     ensures { λ r. ⌜ lineReadOf (now (s .entry)) r ≡ codedLine k 0 (placeOf (now (s .entry)) place) ⌝ }
 {
     let at = place.at;
-    let got = line_from(s, at, k, 0);
+    let got = line_at(s, at, k, 0);
     numbered(s, got, place, k)
 }

@@ -2,5 +2,6 @@
 mod line;
 mod text;
 
+pub use text::MARGIN_BYTES;
 pub use text::margins_length;
 pub use text::put_margins;

@@ -10,6 +10,9 @@ ghost use Rattle.writing.specs.Lengths.{Long};
 ghost use Rattle.writing.specs.Written.{Written};
 ghost use Rattle.marginlines.specs.Lines.{longestLines, mostCounted};
 
+// No text of margins is longer: `margin-bytes` and `every-margin-fits` of crate `margin`.
+pub const MARGIN_BYTES: usize = 364;
+
 pub fn graphs_length(
     figures: [u32; Table::GRAPHS],
     limits: [u32; Table::GRAPHS],

@@ -19,6 +19,7 @@ use inputs::take_tables;
 use libc::STDERR_FILENO;
 use libc::STDIN_FILENO;
 use libc::STDOUT_FILENO;
+use marginlines::MARGIN_BYTES;
 use marginprints::put_margin_to;
 use printing::SLOT;
 use printing::SLOTS;
@@ -194,7 +195,7 @@ fn print_margin(limits: &[u8], m: usize)
     requires { ⌜ (Limits.limitBytes .to < length (now limits)) × (m ≤ length (now limits)) ⌝ }
 {
     let mut room = [0u8; SLOT];
-    let mut text = io::buffer();
+    let mut text = [0u8; MARGIN_BYTES];
     match read_input(STDIN_FILENO, &mut room) {
         Input::Failed => os::fail(b"standard input"),
         Input::Bytes(n) => {
@@ -206,29 +207,34 @@ fn print_margin(limits: &[u8], m: usize)
     }
 }
 
-// The limits in a file, whose name is an argument. One that cannot be read is told, and nothing is printed.
-fn answer_margin(name: &[u8]) {
-    let mut limits = [0u8; LIMITS_ROOM];
-    let fd = os::open_read(name);
-    if fd < 0 {
-        return os::fail(name);
-    }
-    let input = read_input(fd, &mut limits);
-    match input {
-        Input::Failed => os::fail(name),
-        Input::Bytes(m) => print_margin(&limits, m),
-    }
-    libc::close(fd);
-}
-
-// A name that does not fit the room for a path names no file.
-fn margin_asked() {
+// The file with the limits, which argument 2 names, or below 0. One that cannot be opened is told. The room for its name is gone before the
+// others are there: all of them would else stand in the frame of `main`, under that of every walk.
+fn limits_opened() -> i32 {
     let mut name = io::buffer();
     let n = os::arg(2, &mut name);
     if os::errno() == libc::ENAMETOOLONG {
-        return os::fail(b"the limits");
+        os::fail(b"the limits");
+        return -1;
     }
-    answer_margin(&name[..n])
+    let fd = os::open_read(&name[..n]);
+    if fd < 0 {
+        os::fail(&name[..n]);
+    }
+    fd
+}
+
+// Where the limits cannot be read, that is told and nothing is printed.
+fn answer_margin() {
+    let fd = limits_opened();
+    if fd < 0 {
+        return;
+    }
+    let mut limits = [0u8; LIMITS_ROOM];
+    match read_input(fd, &mut limits) {
+        Input::Failed => os::fail(b"the limits"),
+        Input::Bytes(m) => print_margin(&limits, m),
+    }
+    libc::close(fd);
 }
 
 fn print_refusal(r: Refusal) {
@@ -274,7 +280,7 @@ fn main() {
         Asked::Batch => answer_batch(lengths),
         Asked::Salvage => print_output(Output::Text),
         Asked::Fixes => print_output(Output::Fixes),
-        Asked::Margin => margin_asked(),
+        Asked::Margin => answer_margin(),
         Asked::Usage => print_usage(),
         Asked::Unread => os::fail(b"/proc/self/cmdline"),
     }

@@ -3,11 +3,8 @@ use borrow.Author.Needs.{needs}
 use Rattle.phalandrix.proofs.answer_margin.Statement.{statement}
 use Rattle.phalandrix.proofs.answer_margin.Tie as tie
 
-open-read-requires : tie.Need-open-read-requires
-open-read-requires c κs = search needs
-
-fail-requires : tie.Need-fail-requires
-fail-requires c κs = search needs
+limits-opened-requires : tie.Need-limits-opened-requires
+limits-opened-requires c κs = search needs
 
 returns : tie.Need-returns
 returns c = search needs
@@ -21,11 +18,14 @@ read-input-requires c κs = search needs
 enum-told : tie.Need-enum-told
 enum-told c = search needs
 
-fail-requires-2 : tie.Need-fail-requires-2
-fail-requires-2 c κs = search needs
+slice-aggregate-fail : tie.Need-slice-aggregate-fail
+slice-aggregate-fail c = search needs
 
-enum-known-input : tie.Need-enum-known-input
-enum-known-input c = search needs
+fail-requires : tie.Need-fail-requires
+fail-requires c κs = search needs
+
+enum-known-m : tie.Need-enum-known-m
+enum-known-m c = search needs
 
 slice-aggregate-print-margin : tie.Need-slice-aggregate-print-margin
 slice-aggregate-print-margin c = search needs
@@ -33,7 +33,7 @@ slice-aggregate-print-margin c = search needs
 print-margin-requires : tie.Need-print-margin-requires
 print-margin-requires c κs =
     let read = c .before .before in
-    let m-within = rw (read .input .given .1) at (read .before .before .before .read-input .ensures) in
+    let m-within = rw (read .m .given .1) at (read .before .before .before .read-input .ensures) in
     (search needs, search (needs, m-within))
 
 close-requires : tie.Need-close-requires
@@ -46,14 +46,14 @@ pub answer-margin-spec : {M : Type 1} → statement M
 answer-margin-spec =
     tie.close
     (tie.spec
-    open-read-requires
-    fail-requires
+    limits-opened-requires
     returns
     slice-aggregate-read-input
     read-input-requires
     enum-told
-    fail-requires-2
-    enum-known-input
+    slice-aggregate-fail
+    fail-requires
+    enum-known-m
     slice-aggregate-print-margin
     print-margin-requires
     close-requires

@@ -6,9 +6,6 @@ use borrow.Author.Needs.{needs}
 use Rattle.phalandrix.proofs.print_margin.Statement.{statement}
 use Rattle.phalandrix.proofs.print_margin.Tie as tie
 
-buffer-requires : tie.Need-buffer-requires
-buffer-requires c κs = search needs
-
 slice-aggregate-read-input : tie.Need-slice-aggregate-read-input
 slice-aggregate-read-input c = search needs
 
@@ -37,7 +34,7 @@ put-margin-to-requires : tie.Need-put-margin-to-requires
 put-margin-to-requires c κs =
     let read = c .before .before .before in
     let n-within = rw (read .n .given .1) at (read .before .before .before .read-input .ensures) in
-    ((search needs, search (needs, n-within)), (read .before .before .before .before .before .before .before .pre, omega arith))
+    ((search needs, search (needs, n-within)), (read .before .before .before .before .before .before .pre, omega arith))
 
 tell-text-requires : tie.Need-tell-text-requires
 tell-text-requires c κs = search needs
@@ -61,7 +58,6 @@ pub print-margin-spec : {M : Type 1} → statement M
 print-margin-spec =
     tie.close
     (tie.spec
-    buffer-requires
     slice-aggregate-read-input
     read-input-requires
     enum-told

@@ -8,8 +8,8 @@ use Rattle.lines.proofs.NumberedLaws.{line-numbered}
 use Rattle.lines.proofs.numbering.one_at.Statement.{statement}
 use Rattle.lines.proofs.numbering.one_at.Tie as tie
 
-line-from-requires : tie.Need-line-from-requires
-line-from-requires c κs = search needs
+line-at-requires : tie.Need-line-at-requires
+line-at-requires c κs = search needs
 
 numbered-requires : tie.Need-numbered-requires
 numbered-requires c κs = search needs
@@ -18,7 +18,7 @@ returns : tie.Need-returns
 returns c =
     let a = c .before .before .before .args in
     let s = now (a .s) in
-    ap (lineReadOf s) (c .numbered .ensures) ∙ line-numbered s (a .k) 0 (a .place) (c .before .line-from .result) (omega arith) (c .before .line-from .ensures)
+    ap (lineReadOf s) (c .numbered .ensures) ∙ line-numbered s (a .k) 0 (a .place) (c .before .line-at .result) (omega arith) (c .before .line-at .ensures)
 
 pub one-at-spec : {M : Type 1} → statement M
-one-at-spec = tie.close (tie.spec line-from-requires numbered-requires returns)
+one-at-spec = tie.close (tie.spec line-at-requires numbered-requires returns)
