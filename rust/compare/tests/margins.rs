@@ -6,8 +6,11 @@ use compare::margins::{Margins, check};
 use generator::{Rng, make};
 use simulator::{Answer, Batch, Reply, lend, margin, report};
 
-/// The second simulator's own margins, but for what `fault` makes of them.
-struct Faulty(fn(Reply, bool) -> (Reply, bool));
+/// What a fault makes of a reply, and of whether it is a refusal of the limit text.
+type Fault = fn(Reply, bool) -> (Reply, bool);
+
+/// The second simulator's own margins, but for what a fault makes of them.
+struct Faulty(Fault);
 
 impl Library for Faulty {
     fn name(&self) -> &str {
@@ -79,7 +82,7 @@ fn a_library_without_the_call_is_not_held_to_it() {
 /// A minus sign lost, a margin off by one, a refusal told of the other text, a refusal as an answer.
 #[test]
 fn faults_are_found() {
-    let faults: [fn(Reply, bool) -> (Reply, bool); 4] = [
+    let faults: [Fault; 4] = [
         |reply, in_limits| (changed(reply, |text| text.replace("margin=-", "margin=")), in_limits),
         |reply, in_limits| (changed(reply, |text| text.replace("margin=0\n", "margin=-0\n")), in_limits),
         |reply, in_limits| (reply, !in_limits),
