@@ -1,5 +1,6 @@
-/* The stack of the calls: each table named is reported, its row taken at 0, it is salvaged, reported twice
- * in one call, read and written, on a stack that was painted before, and the paint gone is counted.
+/* The stack of the calls: each table named is reported, its row taken at 0 and at the last instant, it is
+ * salvaged, reported twice in one call, read and written, on a stack that was painted before, and the paint
+ * gone is counted.
  * PHALANDRIX_STACK_BYTES must hold every call. */
 #define _GNU_SOURCE
 #include "phalandrix.h"
@@ -21,6 +22,10 @@ static ucontext_t here, there;
 static void nothing(void) { }
 static void make_report(void) { phalandrix_report(table, table_length, buffer, sizeof buffer); }
 static void make_row(void) { phalandrix_row(table, table_length, 0, buffer, sizeof buffer); }
+static void make_far_row(void)
+{
+    phalandrix_row(table, table_length, PHALANDRIX_LAST_INSTANT, buffer, sizeof buffer);
+}
 static void make_salvage(void)
 {
     phalandrix_salvage(table, table_length, text, sizeof text, list, sizeof list);
@@ -76,6 +81,7 @@ int main(int count, char **names)
         }
         report = larger(report, used_by(make_report) - without);
         row = larger(row, used_by(make_row) - without);
+        row = larger(row, used_by(make_far_row) - without);
         batch = larger(batch, used_by(make_batch) - without);
         salvage = larger(salvage, used_by(make_salvage) - without);
         reads = larger(reads, used_by(make_reading) - without);

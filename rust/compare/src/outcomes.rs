@@ -20,6 +20,8 @@ pub struct Outcomes {
     pub reports: Numbers,
     /// Calls by the number of their answer.
     pub calls: Numbers,
+    /// Rows answered at or past the stop.
+    pub far: u64,
     /// Calls on several tables that were answered.
     pub batches: u64,
     /// Tables looked at for demand 3.
@@ -48,6 +50,7 @@ impl Outcomes {
     pub fn missing(&self, by_force: bool) -> Vec<String> {
         let refusals = REFUSALS.map(|number| (format!("refusal {number}"), self.calls[number]));
         let mut all: Vec<(String, u64)> = vec![("a settled table".into(), self.reports[0])];
+        all.push(("a row past the stop".into(), self.far));
         all.extend(refusals);
         all.push(("an answered call on several tables".into(), self.batches));
         all.extend(self.mendings.counts());
@@ -67,6 +70,7 @@ impl AddAssign<&Outcomes> for Outcomes {
         let add = |to: &mut [u64], from: &[u64]| to.iter_mut().zip(from).for_each(|(to, from)| *to += from);
         add(&mut self.reports, &other.reports);
         add(&mut self.calls, &other.calls);
+        self.far += other.far;
         self.batches += other.batches;
         self.forced += other.forced;
         self.invocations += other.invocations;
@@ -82,7 +86,7 @@ impl fmt::Display for Outcomes {
         let tables: u64 = self.reports.iter().sum();
         let calls: u64 = self.calls.iter().sum();
         write!(out, "{tables} tables, {calls} calls, 0 differences; {} tables settled", self.reports[0])?;
-        write!(out, "; calls answered {}", self.calls[0])?;
+        write!(out, "; calls answered {}, rows past the stop {}", self.calls[0], self.far)?;
         for number in REFUSALS {
             write!(out, ", refused as {number} {}", self.calls[number])?;
         }

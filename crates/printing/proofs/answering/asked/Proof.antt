@@ -12,11 +12,11 @@ report-requires c κs = search needs
 enum-known-q : tie.Need-enum-known-q
 enum-known-q c = search needs
 
-cast-row : tie.Need-cast-row
-cast-row c = search needs
+cast-asked-row : tie.Need-cast-asked-row
+cast-asked-row c = search needs
 
-row-requires : tie.Need-row-requires
-row-requires c κs = search needs
+asked-row-requires : tie.Need-asked-row-requires
+asked-row-requires c κs = search needs
 
 enum-told-2 : tie.Need-enum-told-2
 enum-told-2 c = search needs
@@ -34,7 +34,7 @@ same-length-2 : tie.Need-same-length-2
 same-length-2 c = search needs
 
 returns-2 : tie.Need-returns-2
-returns-2 c = rw (c .before .before .before .before .before .q .given .1) (c .before .before .row .ensures)
+returns-2 c = rw (c .before .before .before .before .before .q .given .1) (c .before .before .asked-row .ensures)
 
 same-length-3 : tie.Need-same-length-3
 same-length-3 c = search needs
@@ -49,8 +49,8 @@ asked-spec =
     enum-told
     report-requires
     enum-known-q
-    cast-row
-    row-requires
+    cast-asked-row
+    asked-row-requires
     enum-told-2
     rewrite-requires
     same-length
