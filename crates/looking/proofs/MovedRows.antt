@@ -32,9 +32,9 @@ use Rattle.writing.specs.declared.row.Run.{Run}
 use Rattle.writing.specs.declared.row.Row.{Row}
 use Rattle.writing.specs.Row.{runningOf, runningIn}
 use Rattle.repeating.specs.Moving as Moving
-use Rattle.repeating.specs.Moving.{periodsOf, periodsAt, noRun, movedRun, movedTo, movedRow}
+use Rattle.repeating.specs.Moving.{periodsOf, periodsAt, noRun, movedRun, movedTo, movedRow, farRow}
 use Rattle.looking.specs.declared.Look.{Look}
-use Rattle.looking.specs.Looking.{farRow}
+use Rattle.looking.specs.Looking.{farAt}
 use Rattle.looking.proofs.RowNumbers.{Each, graphs-numbered, Entry, row-entries, each-under, each-read}
 use Rattle.looking.proofs.Looked.{stop, Looked}
 
@@ -142,7 +142,7 @@ module _ (U : Table) (ok : T (wellFormed U)) where
     shown-there : runningIn (look there .row) ≡ row there
     shown-there = sees there .shows (matching-in-round U ok k h t .1)
 
-    pub far-shown : runningIn (farRow look (memoryOf U .graph) H u t) ≡ row t
+    pub far-shown : runningIn (farAt look (memoryOf U .graph) H u t) ≡ row t
     unfolding farRow
     far-shown =
         row-moved periods m (periodsIn U) (look there .row) (sees there .room) (rw shown-there fit)

@@ -1,13 +1,16 @@
 -- The row call in memory, where `look t` is what an engine's walk to t shows: what the calls answer and tell. For the proof, not for belief.
+use mathlib.Core.Bool.{cond}
 use mathlib.Core.List.{List}
 use Prim.Native.Nat.{ℕ}
-use Rattle.schedule.specs.FarRows.{matching, passed}
+use lib.Dec.{ltb}
+use Rattle.schedule.specs.Limits as Limits
+use Rattle.schedule.specs.FarRows.{matching}
 use Rattle.format.specs.declared.Refusal.the-variants.{PastTheStop}
 use Rattle.rules.specs.Answers.{Reply, says, refuses, rowText}
 use Rattle.table.specs.declared.Graph.{Graph}
 use Rattle.writing.specs.declared.row.Row.{Row}
 use Rattle.writing.specs.Row.{runningIn}
-use Rattle.repeating.specs.Moving.{periodsOf, movedRow}
+use Rattle.repeating.specs.Moving.{farRow}
 use Rattle.looking.specs.declared.End.{End}
 use Rattle.looking.specs.declared.End.the-variants.{Reached, Settled, Stopped}
 use Rattle.looking.specs.declared.Look.{Look}
@@ -28,11 +31,15 @@ ticksBy Stopped stop t = stop
 
 module _ (look : ℕ → Look) (graph : List Graph) (hyper : ℕ) where
   -- the row at t, at or past the stop
-  unfoldable pub farRow : ℕ → ℕ → Row
-  farRow stop t = movedRow (periodsOf graph hyper) (passed hyper stop t) (look (matching hyper stop t) .row)
+  abbrev pub farAt : ℕ → ℕ → Row
+  farAt stop t = farRow graph hyper stop t (look (matching hyper stop t) .row)
 
   abbrev pub replyAt : ℕ → Reply
-  replyAt t = rowBy (look t .end) (saysRow (look t .row)) (saysRow (farRow (look t .ticks) t))
+  replyAt t = rowBy (look t .end) (saysRow (look t .row)) (saysRow (farAt (look t .ticks) t))
+
+  -- none above the limit of an instant
+  abbrev pub replyWithin : ℕ → Reply
+  replyWithin t = cond (ltb (Limits.instant .to) t) (refuses PastTheStop) (replyAt t)
 
   abbrev pub ticksAt : ℕ → ℕ
   ticksAt t = ticksBy (look t .end) (look t .ticks) t

@@ -5,6 +5,7 @@ use Prim.Native.Nat.{ℕ, _+_, _*_, _-_, _/_, min}
 use lib.Dec.{ltb}
 use lib.ListN.{getD, replicate}
 use Rattle.schedule.specs.Limits as Limits
+use Rattle.schedule.specs.FarRows.{passed}
 use Rattle.table.specs.declared.Graph.{Graph}
 use Rattle.table.specs.Fresh.{noGraph}
 use Rattle.window.specs.Entries.{lastKey}
@@ -47,3 +48,7 @@ module _ (periods : List ℕ) (passed : ℕ) where
 
   abbrev pub movedRow : Row → Row
   movedRow row = movedTo row (row .count)
+
+-- the row at t, from that at the matching instant
+unfoldable pub farRow : List Graph → (hyper stop t : ℕ) → Row → Row
+farRow graph hyper stop t there = movedRow (periodsOf graph hyper) (passed hyper stop t) there

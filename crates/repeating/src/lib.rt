@@ -4,6 +4,4 @@ mod instants;
 mod moving;
 
 pub use instants::matching;
-pub use instants::passed;
-pub use moving::moved_row;
-pub use moving::periods_of;
+pub use moving::far_row;

@@ -1,5 +1,6 @@
 // A row moved on: each number by the periods that its graph has in the hyperperiods passed.
 use crate::instants::between;
+use crate::instants::passed;
 use table::Graph;
 use table::Table;
 use writing::Row;
@@ -89,4 +90,19 @@ pub fn moved_row(row: Row, periods: [u32; Table::GRAPHS], passed: u32) -> Row
         r += 1;
     }
     moved
+}
+
+// The row at t, at or past the stop of a walk that settled there, from the row at the matching instant.
+pub fn far_row(
+    there: Row,
+    graph: [Graph; Table::GRAPHS],
+    hyper: u32,
+    stop: u32,
+    t: u32,
+) -> Row
+    requires { ⌜ (there .count ≤ Limits.processors .to) × (1 ≤ hyper) ⌝ }
+    ensures { λ r. ⌜ r ≡ Mirror.farRow graph hyper stop t there ⌝ }
+{
+    let periods = periods_of(graph, hyper);
+    moved_row(there, periods, passed(hyper, stop, t))
 }

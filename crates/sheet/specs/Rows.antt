@@ -1,14 +1,11 @@
 -- The row call in memory: what a walk shows, what is answered of it, and what is told. For the proof, not for belief.
 use mathlib.Core.Path.{_≡_}
-use mathlib.Core.Bool.{Bool, true, false}
 use mathlib.Core.List.{List}
 use Prim.Native.Nat.{ℕ, _+_, _*_, _≤_}
-use lib.Dec.{ltb}
 use Rattle.schedule.specs.Limits as Limits
-use Rattle.format.specs.declared.Refusal.the-variants.{PastTheStop}
 use Rattle.rules.specs.declared.Answer.{Answer}
 use Rattle.rules.specs.declared.RowAnswer.{RowAnswer}
-use Rattle.rules.specs.Answers.{Reply, refuses, ticksTold, callOf}
+use Rattle.rules.specs.Answers.{Reply, ticksTold, callOf}
 use Rattle.table.specs.declared.Graph.{Graph}
 use Rattle.window.specs.declared.How.{How}
 use Rattle.window.specs.declared.How.the-variants as How
@@ -18,7 +15,7 @@ use Rattle.rows.specs.Showing.{rowOf}
 use Rattle.looking.specs.declared.End.{End}
 use Rattle.looking.specs.declared.End.the-variants as End
 use Rattle.looking.specs.declared.Look.{Look}
-use Rattle.looking.specs.Looking.{replyAt, ticksAt}
+use Rattle.looking.specs.Looking.{replyWithin, ticksAt}
 use Rattle.sheet.specs.declared.plans.Laid.{Laid}
 use Rattle.sheet.specs.Calls.{called}
 
@@ -51,14 +48,5 @@ pub record Answered (reply : Reply) (ticks : ℕ) (before after : List ℕ) (r :
   pub walked : r .walked ≡ ticksTold (r .answer) ticks
 
 -- of an engine's looks
-module _ (look : ℕ → Look) (graph : List Graph) (hyper : ℕ) where
-  unfoldable pub RowAt : ℕ → List ℕ → List ℕ → RowAnswer → Type 0
-  RowAt t before after r = Answered (replyAt look graph hyper t) (ticksAt look graph hyper t) before after r
-
-  -- above the limit of an instant, and not
-  abbrev pub RowBy : Bool → ℕ → List ℕ → List ℕ → RowAnswer → Type 0
-  RowBy true t before after r = Answered (refuses PastTheStop) 0 before after r
-  RowBy false t before after r = RowAt t before after r
-
-  unfoldable pub RowWithin : ℕ → List ℕ → List ℕ → RowAnswer → Type 0
-  RowWithin t before after r = RowBy (ltb (Limits.instant .to) t) t before after r
+unfoldable pub RowAt : (ℕ → Look) → List Graph → (hyper t : ℕ) → List ℕ → List ℕ → RowAnswer → Type 0
+RowAt look graph hyper t before after r = Answered (replyWithin look graph hyper t) (ticksAt look graph hyper t) before after r

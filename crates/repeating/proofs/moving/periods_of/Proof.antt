@@ -13,12 +13,12 @@ use Rattle.repeating.proofs.moving.periods_of.Statement.{statement}
 use Rattle.repeating.proofs.moving.periods_of.Tie as tie
 
 abbrev Inv-loop : tie.InvT-loop
-Inv-loop graph hyper periods₀ g₀ periods g =
+Inv-loop hyper graph periods₀ g₀ periods g =
     (g ≤ Limits.graphs .to)
     × (periods ≡ replaced (λ (i : ℕ). periodsIn hyper (getD graph i noGraph)) (replicate (Limits.graphs .to) 0) g)
 
 abbrev μ-loop : tie.MeasureT-loop
-μ-loop graph hyper periods₀ g₀ periods g = Limits.graphs .to - g
+μ-loop hyper graph periods₀ g₀ periods g = Limits.graphs .to - g
 
 loop-holds : tie.Need-loop-holds Inv-loop μ-loop
 unfolding replaced
@@ -27,8 +27,8 @@ loop-holds c = (search needs, refl)
 mul-periods-in : tie.Need-mul-periods-in Inv-loop μ-loop
 mul-periods-in c = search needs
 
-element-copy-out-periods-in : tie.Need-element-copy-out-periods-in Inv-loop μ-loop
-element-copy-out-periods-in c = search needs
+array-copy-out-periods-in : tie.Need-array-copy-out-periods-in Inv-loop μ-loop
+array-copy-out-periods-in c = search needs
 
 periods-in-requires : tie.Need-periods-in-requires Inv-loop μ-loop
 periods-in-requires c κs = search needs
@@ -65,7 +65,7 @@ periods-of-spec =
     μ-loop
     loop-holds
     mul-periods-in
-    element-copy-out-periods-in
+    array-copy-out-periods-in
     periods-in-requires
     mul-periods
     array-write-periods
