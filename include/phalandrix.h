@@ -98,7 +98,9 @@ enum {
     PHALANDRIX_FIXES_BYTES = 45067,
     /* The bytes of stack that a call needs at most: measured, rounded up, and held by tests/stack.c.
      * It is not proved. */
-    PHALANDRIX_STACK_BYTES = 16384
+    PHALANDRIX_STACK_BYTES = 16384,
+    /* The same for the two calls of the plain engine. */
+    PHALANDRIX_PLAIN_STACK_BYTES = 65536
 };
 
 /* A table in memory, for an editor: plain numbers, and any content may be passed to
@@ -161,6 +163,15 @@ phalandrix_answer phalandrix_report(const uint8_t *table, size_t table_length,
  * stop of the walk. */
 phalandrix_row_answer phalandrix_row(const uint8_t *table, size_t table_length, uint64_t instant,
                                      uint8_t *buffer, size_t buffer_length);
+
+/* The same report and row by the plain engine, which goes tick by tick in the order of the rules: the
+ * answer and every byte of the buffer are those of the calls above; this is proved. It takes longer
+ * (docs/BENCHMARK.md) and PHALANDRIX_PLAIN_STACK_BYTES of stack. */
+phalandrix_answer phalandrix_plain_report(const uint8_t *table, size_t table_length,
+                                          uint8_t *buffer, size_t buffer_length);
+
+phalandrix_row_answer phalandrix_plain_row(const uint8_t *table, size_t table_length, uint64_t instant,
+                                           uint8_t *buffer, size_t buffer_length);
 
 /* Number, line and column 0 and the lengths of the text and of the list; or the number of a refusal,
  * 1 or 10, with line, column and both lengths 0. */

@@ -63,19 +63,22 @@ static phalandrix_answer report_in(uint8_t *buffer, const char *bytes, size_t ro
 /* A row's answer, and the ticks walked that it tells. */
 static uint32_t walked;
 
-static phalandrix_answer row_in(uint8_t *buffer, uint64_t instant, size_t room)
+static phalandrix_answer without_ticks(phalandrix_row_answer r)
 {
-    phalandrix_row_answer r;
     phalandrix_answer a;
 
-    memset(buffer, UNTOUCHED, ROOM);
-    r = phalandrix_row((const uint8_t *)table, strlen(table), instant, buffer, room);
     walked = r.walked;
     a.number = r.number;
     a.line = r.line;
     a.column = r.column;
     a.length = r.length;
     return a;
+}
+
+static phalandrix_answer row_in(uint8_t *buffer, uint64_t instant, size_t room)
+{
+    memset(buffer, UNTOUCHED, ROOM);
+    return without_ticks(phalandrix_row((const uint8_t *)table, strlen(table), instant, buffer, room));
 }
 
 /* The ticks that the row before was walked for. */
@@ -85,6 +88,47 @@ static void expect_walked(uint32_t ticks)
         printf("ticks walked: %u and not %u\n", (unsigned)walked, (unsigned)ticks);
         failures++;
     }
+}
+
+static phalandrix_answer plain_report_in(uint8_t *buffer, const char *bytes, size_t room)
+{
+    memset(buffer, UNTOUCHED, ROOM);
+    return phalandrix_plain_report((const uint8_t *)bytes, strlen(bytes), buffer, room);
+}
+
+static phalandrix_answer plain_row_in(uint8_t *buffer, uint64_t instant, size_t room)
+{
+    memset(buffer, UNTOUCHED, ROOM);
+    return without_ticks(phalandrix_plain_row((const uint8_t *)table, strlen(table), instant, buffer, room));
+}
+
+/* The plain engine: what the first one gives. */
+static void plain_calls(void)
+{
+    uint8_t b[ROOM];
+    size_t n = strlen(report);
+
+    expect("plain report", plain_report_in(b, table, ROOM), b, PHALANDRIX_ANSWERED, 0, report);
+    expect("plain report that just fits", plain_report_in(b, table, n), b, PHALANDRIX_ANSWERED, 0, report);
+    expect("plain report one byte too long", plain_report_in(b, table, n - 1), b, PHALANDRIX_SHORT_BUFFER, 0, "");
+    expect("plain report past a limit", plain_report_in(b, "processors=1\nrounds=0\n", ROOM), b,
+           PHALANDRIX_OUTSIDE_LIMITS, 2, "");
+    expect("plain report of a node that cannot keep up", plain_report_in(b, too_slow, ROOM), b,
+           PHALANDRIX_CANNOT_KEEP_UP, 0, "");
+    expect("plain row at 4", plain_row_in(b, 4, ROOM), b, PHALANDRIX_ANSWERED, 0, row);
+    expect_walked(4);
+    expect("plain row at the stop", plain_row_in(b, 8, ROOM), b, PHALANDRIX_ANSWERED, 0, "run=1,1,3,3\n");
+    expect_walked(8);
+    expect("plain row at the last instant", plain_row_in(b, PHALANDRIX_LAST_INSTANT, ROOM), b,
+           PHALANDRIX_ANSWERED, 0, "run=1,1,1000000001,1000000001\n");
+    expect_walked(8);
+    expect("plain row past the last instant", plain_row_in(b, PHALANDRIX_LAST_INSTANT + 1, ROOM), b,
+           PHALANDRIX_PAST_THE_STOP, 0, "");
+    expect_walked(0);
+    expect("plain row past 2^32", plain_row_in(b, UINT64_MAX, ROOM), b, PHALANDRIX_PAST_THE_STOP, 0, "");
+    expect("plain row in no buffer", plain_row_in(b, 4, 0), b, PHALANDRIX_SHORT_BUFFER, 0, "");
+    memset(b, UNTOUCHED, ROOM);
+    expect("nothing at all, plain", phalandrix_plain_report(NULL, 0, NULL, 0), b, PHALANDRIX_MISSPELLED, 1, "");
 }
 
 /* One salvage: its answer, both outputs, and untouched bytes behind them. */
@@ -226,6 +270,7 @@ int main(void)
     expect_walked(0);
     memset(b, UNTOUCHED, ROOM);
     expect("nothing at all", phalandrix_report(NULL, 0, NULL, 0), b, PHALANDRIX_MISSPELLED, 1, "");
+    plain_calls();
     salvages();
     expect_batches();
     expect_sentence(PHALANDRIX_ANSWERED, "answered");

@@ -1,7 +1,7 @@
 /* The stack of the calls: each table named is reported, its row taken at 0 and at the last instant, it is
- * salvaged, reported twice in one call, read and written, on a stack that was painted before, and the paint
- * gone is counted.
- * PHALANDRIX_STACK_BYTES must hold every call. */
+ * salvaged, reported twice in one call, read and written, and reported and its row taken by the plain engine,
+ * on a stack that was painted before, and the paint gone is counted. PHALANDRIX_STACK_BYTES must hold every
+ * call, and PHALANDRIX_PLAIN_STACK_BYTES the two of the plain engine. */
 #define _GNU_SOURCE
 #include "phalandrix.h"
 
@@ -38,6 +38,12 @@ static void make_batch(void)
 }
 static void make_reading(void) { reading = phalandrix_read(table, table_length); }
 static void make_text(void) { phalandrix_write(reading.table, buffer, sizeof buffer); }
+static void make_plain_report(void) { phalandrix_plain_report(table, table_length, buffer, sizeof buffer); }
+static void make_plain_row(void) { phalandrix_plain_row(table, table_length, 0, buffer, sizeof buffer); }
+static void make_plain_far_row(void)
+{
+    phalandrix_plain_row(table, table_length, PHALANDRIX_LAST_INSTANT, buffer, sizeof buffer);
+}
 
 /* The bytes of a painted stack that are no longer as they were. */
 static size_t used_by(void (*call)(void))
@@ -73,6 +79,7 @@ static size_t larger(size_t one, size_t other) { return one > other ? one : othe
 int main(int count, char **names)
 {
     size_t report = 0, row = 0, batch = 0, salvage = 0, reads = 0, writes = 0, without = used_by(nothing);
+    size_t plain_report = 0, plain_row = 0;
 
     for (int i = 1; i < count; i++) {
         if (!read_table(names[i])) {
@@ -86,11 +93,16 @@ int main(int count, char **names)
         salvage = larger(salvage, used_by(make_salvage) - without);
         reads = larger(reads, used_by(make_reading) - without);
         writes = larger(writes, used_by(make_text) - without);
+        plain_report = larger(plain_report, used_by(make_plain_report) - without);
+        plain_row = larger(plain_row, used_by(make_plain_row) - without);
+        plain_row = larger(plain_row, used_by(make_plain_far_row) - without);
     }
     printf("tests/stack: over %d tables report used %zu bytes of stack, row %zu, batch %zu, salvage %zu, "
-           "read %zu, write %zu; the header says %d\n",
-           count - 1, report, row, batch, salvage, reads, writes, PHALANDRIX_STACK_BYTES);
-    return report == 0 || row == 0 || batch == 0 || salvage == 0 || reads == 0 || writes == 0
+           "read %zu, write %zu; the header says %d; plain report used %zu, plain row %zu; the header says %d\n",
+           count - 1, report, row, batch, salvage, reads, writes, PHALANDRIX_STACK_BYTES, plain_report,
+           plain_row, PHALANDRIX_PLAIN_STACK_BYTES);
+    return plain_report == 0 || plain_row == 0
+        || larger(plain_report, plain_row) > PHALANDRIX_PLAIN_STACK_BYTES || report == 0 || row == 0 || batch == 0 || salvage == 0 || reads == 0 || writes == 0
         || larger(larger(larger(report, row), larger(batch, salvage)), larger(reads, writes))
             > PHALANDRIX_STACK_BYTES;
 }

@@ -51,6 +51,7 @@ fn rust_of(header: &str) -> String {
             "The length of the longest text of a table: no write with such a buffer is refused as 10.",
         ),
         ("STACK_BYTES", "The bytes of stack that a call needs at most; measured, not proved."),
+        ("PLAIN_STACK_BYTES", "The same for the two calls of the plain engine."),
     ] {
         let rest = between(header, &format!("PHALANDRIX_{name} = "), "\n");
         let size = rest.trim_end_matches(|c: char| !c.is_ascii_digit());

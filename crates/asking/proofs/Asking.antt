@@ -21,7 +21,7 @@ use Rattle.asking.specs.declared.questions.Asked.the-variants as Asked
 use Rattle.asking.specs.declared.lengths.Lengths.{Lengths}
 use Rattle.asking.specs.Instants.{atEnd, instantBy, instantOf}
 use Rattle.asking.specs.Lengths.{isAt, isNumber, noLengths, lengthsOn, lengthsBy}
-use Rattle.asking.specs.Questions.{row, batch, salvage, fixes, rewrite, longestWord, wholly, isWord, rowAsked, rewriteAsked, outputAsked, textAskedBy, textQuestion, batchAsked, questionOf, asked, fitting, Told}
+use Rattle.asking.specs.Questions.{row, batch, salvage, fixes, rewrite, plain, longestWord, wholly, isWord, rowAsked, rewriteAsked, plainAsked, plainRowAsked, plainAskedBy, outputAsked, textAskedBy, textQuestion, batchAsked, questionOf, asked, fitting, Told}
 
 -- a word by what the scanner of a text found
 module _ (w s : List ℕ) (r : Found) (found : foundOf s r ≡ text w s) where
@@ -65,6 +65,10 @@ no-rewrite : isWord rewrite [] ≡ false
 unfolding text
 no-rewrite = refl
 
+no-plain : isWord plain [] ≡ false
+unfolding text
+no-plain = refl
+
 or-none : (b : Bool) → b ≡ (b || false)
 or-none true = refl
 or-none false = refl
@@ -98,25 +102,31 @@ by-lengths ts = rw (unread-by noLengths ts, misspelled-by noLengths ts) (either 
     either true = refl
     either false = refl
 
-module _ (room : ℕ) (l : longestWord ≤ room) where
+module _ (room second : ℕ) (l : longestWord ≤ room) (k : longestWord ≤ second) where
   by-output : (w : List ℕ) → outputAsked (fitting room w) ≡ outputAsked w
-  by-output w = rw (in-its-room salvage no-salvage room l w, in-its-room fixes no-fixes room (omega arith) w, in-its-room rewrite no-rewrite room l w)
+  by-output w = rw (in-its-room salvage no-salvage room l w, in-its-room fixes no-fixes room (omega arith) w, in-its-room rewrite no-rewrite room l w, in-its-room plain no-plain room (omega arith) w)
 
-  by-text : (w : List ℕ) (ts : List (List ℕ)) → textAskedBy (suc (length (w ∷ ts))) (fitting room w) (instantOf (getD (w ∷ ts) 1 [])) ≡ textQuestion w ts
+  by-text : (w : List ℕ) (ts : List (List ℕ))
+      → textAskedBy (suc (length (w ∷ ts))) (fitting room w) (instantOf (getD (w ∷ ts) 1 [])) (fitting second (getD (w ∷ ts) 1 [])) (instantOf (getD (w ∷ ts) 2 []))
+      ≡ textQuestion w ts
   by-text w [] = by-output w
   by-text w (t ∷ []) = ap (λ (b : Bool). cond b (rowAsked (instantOf t)) Asked.Usage) (in-its-room row no-row room (omega arith) w)
-  by-text w (t ∷ u ∷ rest) =
-      let count : ℕ = suc (length (w ∷ t ∷ u ∷ rest)) in
-      rw (ne-eqb count 2 (λ e. omega arith), ne-eqb count 3 (λ e. omega arith))
+  by-text w (t ∷ u ∷ []) = rw (in-its-room plain no-plain room (omega arith) w, in-its-room row no-row second (omega arith) t)
+  by-text w (t ∷ u ∷ v ∷ rest) =
+      let count : ℕ = suc (length (w ∷ t ∷ u ∷ v ∷ rest)) in
+      rw (ne-eqb count 2 (λ e. omega arith), ne-eqb count 3 (λ e. omega arith), ne-eqb count 4 (λ e. omega arith))
 
   by-what-is-told : (arguments : List (List ℕ))
-      → asked (suc (length arguments)) (fitting room (getD arguments 0 [])) (instantOf (getD arguments 1 [])) (lengthsBy noLengths (map instantOf (drop 1 arguments)))
+      → asked (suc (length arguments)) (fitting room (getD arguments 0 [])) (instantOf (getD arguments 1 [])) (fitting second (getD arguments 1 []))
+      (instantOf (getD arguments 2 [])) (lengthsBy noLengths (map instantOf (drop 1 arguments)))
       ≡ questionOf arguments
   by-what-is-told [] = refl
   by-what-is-told (w ∷ ts) =
       rw (ne-eqb (suc (length (w ∷ ts))) 1 (λ e. omega arith), in-its-room batch no-batch room (omega arith) w, by-lengths ts, by-text w ts)
 
-pub asked-is : (arguments : List (List ℕ)) (count : ℕ) (room : List ℕ) (n : ℕ) (instant : Instant) (lengths : Lengths) → longestWord ≤ length room
-    → Told arguments count room n instant lengths → asked count (take n room) instant lengths ≡ questionOf arguments
-asked-is arguments count room n instant lengths l told =
-    rw (told .counted, told .word, told .spelled, told .measured) (by-what-is-told (length room) l arguments)
+pub asked-is : (arguments : List (List ℕ)) (count : ℕ) (room : List ℕ) (n : ℕ) (instant : Instant) (second : List ℕ) (m : ℕ) (later : Instant) (lengths : Lengths)
+    → longestWord ≤ length room → longestWord ≤ length second → Told arguments count room n instant second m later lengths
+    → asked count (take n room) instant (take m second) later lengths ≡ questionOf arguments
+asked-is arguments count room n instant second m later lengths l k told =
+    rw (told .counted, told .word, told .spelled, told .word-behind, told .spelled-behind, told .measured)
+    (by-what-is-told (length room) (length second) l k arguments)

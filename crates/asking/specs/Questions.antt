@@ -10,7 +10,7 @@ use Rattle.format.specs.Bytes.{bytes}
 use Rattle.format.specs.Spelling.{Scan, read, wrong, text}
 use Rattle.asking.specs.declared.instants.Instant.{Instant}
 use Rattle.asking.specs.declared.instants.Instant.the-variants.{At, Misspelled, Unread}
-use Rattle.asking.specs.declared.questions.Question.the-variants.{Report, Row, Rewrite}
+use Rattle.asking.specs.declared.questions.Question.the-variants.{Report, Row, Rewrite, PlainReport, PlainRow}
 use Rattle.asking.specs.declared.questions.Asked.{Asked}
 use Rattle.asking.specs.declared.questions.Asked.the-variants as Asked
 use Rattle.asking.specs.declared.lengths.Lengths.{Lengths}
@@ -33,6 +33,9 @@ fixes = bytes "fixes"
 abbrev pub rewrite : List ℕ
 rewrite = bytes "rewrite"
 
+abbrev pub plain : List ℕ
+plain = bytes "plain"
+
 abbrev pub longestWord : ℕ
 longestWord = length salvage
 
@@ -53,19 +56,32 @@ rowAsked Unread = Asked.Unread
 abbrev pub batchAsked : Lengths → Asked
 batchAsked s = cond (s .unread) Asked.Unread (cond (s .misspelled) Asked.Usage Asked.Batch)
 
+abbrev pub plainAsked : List ℕ → Asked
+plainAsked w = cond (isWord plain w) (Asked.Answer PlainReport) Asked.Usage
+
+abbrev pub plainRowAsked : Instant → Asked
+plainRowAsked (At t) = Asked.Answer (PlainRow t)
+plainRowAsked Misspelled = Asked.Usage
+plainRowAsked Unread = Asked.Unread
+
+-- by `plain`, `row` and an instant
+abbrev pub plainAskedBy : List ℕ → List ℕ → Instant → Asked
+plainAskedBy w second later = cond (isWord plain w) (cond (isWord row second) (plainRowAsked later) Asked.Usage) Asked.Usage
+
 abbrev pub rewriteAsked : List ℕ → Asked
-rewriteAsked w = cond (isWord rewrite w) (Asked.Answer Rewrite) Asked.Usage
+rewriteAsked w = cond (isWord rewrite w) (Asked.Answer Rewrite) (plainAsked w)
 
 -- by a word that stands alone: `salvage` asks for what is left of a text, `fixes` for the list of what was changed, `rewrite` for the table read
--- and written again
+-- and written again, `plain` for the report by the plain engine
 abbrev pub outputAsked : List ℕ → Asked
 outputAsked w = cond (isWord salvage w) Asked.Salvage (cond (isWord fixes w) Asked.Fixes (rewriteAsked w))
 
--- of one text: `salvage`, `fixes` or `rewrite`, that output; `row` and an instant, the row at it
+-- of one text: a word that stands alone; `row` and an instant, the row at it; `plain row` and an instant, that row by the plain engine
 abbrev pub textQuestion : List ℕ → List (List ℕ) → Asked
 textQuestion w [] = outputAsked w
 textQuestion w (t ∷ []) = cond (isWord row w) (rowAsked (instantOf t)) Asked.Usage
-textQuestion w (t ∷ u ∷ rest) = Asked.Usage
+textQuestion w (t ∷ u ∷ []) = plainAskedBy w t (instantOf u)
+textQuestion w (t ∷ u ∷ v ∷ rest) = Asked.Usage
 
 -- what the arguments behind the program's own name ask: none, the report; `batch` and any number of lengths, several tables; else what is asked
 -- of one text; all others nothing
@@ -73,24 +89,27 @@ abbrev pub questionOf : List (List ℕ) → Asked
 questionOf [] = Asked.Answer Report
 questionOf (w ∷ ts) = cond (isWord batch w) (cond (all? isNumber ts) Asked.Batch Asked.Usage) (textQuestion w ts)
 
--- the same by what the system tells of the arguments: how many there are, with the program's own name; the first one; the instant that the
--- second spells, and the lengths that all from the second on spell
-abbrev pub textAskedBy : ℕ → List ℕ → Instant → Asked
-textAskedBy count word instant =
+-- the same by what the system tells of the arguments: how many there are, with the program's own name; the first one, and the instant that the
+-- second spells; the second one, and the instant that the third spells; and the lengths that all from the second on spell
+abbrev pub textAskedBy : ℕ → List ℕ → Instant → List ℕ → Instant → Asked
+textAskedBy count word instant second later =
     cond (eqb count 2) (outputAsked word)
-    (cond (eqb count 3) (cond (isWord row word) (rowAsked instant) Asked.Usage) Asked.Usage)
+    (cond (eqb count 3) (cond (isWord row word) (rowAsked instant) Asked.Usage) (cond (eqb count 4) (plainAskedBy word second later) Asked.Usage))
 
-abbrev pub asked : ℕ → List ℕ → Instant → Lengths → Asked
-asked count word instant lengths =
-    cond (eqb count 1) (Asked.Answer Report) (cond (isWord batch word) (batchAsked lengths) (textAskedBy count word instant))
+abbrev pub asked : ℕ → List ℕ → Instant → List ℕ → Instant → Lengths → Asked
+asked count word instant second later lengths =
+    cond (eqb count 1) (Asked.Answer Report) (cond (isWord batch word) (batchAsked lengths) (textAskedBy count word instant second later))
 
 -- an argument in a room of its own: nothing, where it does not fit
 abbrev pub fitting : ℕ → List ℕ → List ℕ
 fitting room s = cond (leb (length s) room) s []
 
 -- what the system told is true of the arguments
-pub record Told (arguments : List (List ℕ)) (count : ℕ) (room : List ℕ) (n : ℕ) (instant : Instant) (lengths : Lengths) : Type 0 where
+pub record Told (arguments : List (List ℕ)) (count : ℕ) (room : List ℕ) (n : ℕ) (instant : Instant) (second : List ℕ) (m : ℕ) (later : Instant)
+    (lengths : Lengths) : Type 0 where
   pub counted : count ≡ suc (length arguments)
   pub word : take n room ≡ fitting (length room) (getD arguments 0 [])
   pub spelled : instant ≡ instantOf (getD arguments 1 [])
+  pub word-behind : take m second ≡ fitting (length second) (getD arguments 1 [])
+  pub spelled-behind : later ≡ instantOf (getD arguments 2 [])
   pub measured : lengths ≡ lengthsBy noLengths (map instantOf (drop 1 arguments))

@@ -3,6 +3,7 @@ mod arguments;
 mod instants;
 mod lengths;
 mod outputs;
+mod plains;
 mod questions;
 mod rewrites;
 

@@ -2,6 +2,7 @@
 use crate::instants::Instant;
 use crate::lengths::Lengths;
 use crate::outputs::output_asked;
+use crate::plains::plain_asked_by;
 use scanning::Found;
 ghost use mathlib.Core.Path.{_≡_};
 ghost use mathlib.Core.List.{List};
@@ -13,6 +14,8 @@ pub enum Question {
     Report,
     Row(u32),
     Rewrite,
+    PlainReport,
+    PlainRow(u32),
 }
 
 pub enum Asked {
@@ -72,9 +75,15 @@ pub fn batch_asked(lengths: Lengths) -> Asked
     Asked::Batch
 }
 
-// Of one text: with a word alone, or with a word and an instant.
-pub fn text_asked_by(count: usize, word: &[u8], instant: Instant) -> Asked
-    ensures { λ r. ⌜ r ≡ textAskedBy count (now (word .entry)) instant ⌝ }
+// Of one text: with a word alone, with a word and an instant, or with two words and an instant.
+pub fn text_asked_by(
+    count: usize,
+    word: &[u8],
+    instant: Instant,
+    second: &[u8],
+    later: Instant,
+) -> Asked
+    ensures { λ r. ⌜ r ≡ textAskedBy count (now (word .entry)) instant (now (second .entry)) later ⌝ }
 {
     if count == 2 {
         return output_asked(word);
@@ -83,12 +92,23 @@ pub fn text_asked_by(count: usize, word: &[u8], instant: Instant) -> Asked
         if is_row(word) {
             return row_asked(instant);
         }
+        return Asked::Usage;
+    }
+    if count == 4 {
+        return plain_asked_by(word, second, later);
     }
     Asked::Usage
 }
 
-pub fn asked_by(count: usize, word: &[u8], instant: Instant, lengths: Lengths) -> Asked
-    ensures { λ r. ⌜ r ≡ asked count (now (word .entry)) instant lengths ⌝ }
+pub fn asked_by(
+    count: usize,
+    word: &[u8],
+    instant: Instant,
+    second: &[u8],
+    later: Instant,
+    lengths: Lengths,
+) -> Asked
+    ensures { λ r. ⌜ r ≡ asked count (now (word .entry)) instant (now (second .entry)) later lengths ⌝ }
 {
     if count == 1 {
         return Asked::Answer(Question::Report);
@@ -96,16 +116,28 @@ pub fn asked_by(count: usize, word: &[u8], instant: Instant, lengths: Lengths) -
     if is_batch(word) {
         return batch_asked(lengths);
     }
-    text_asked_by(count, word, instant)
+    text_asked_by(count, word, instant, second, later)
 }
 
-// By how many arguments there are, the program's own name among them; the first n bytes of the room that argument 1 was put into; the
-// instant that argument 2 spells; and the lengths that the arguments from 2 on spell.
-pub fn question_of(count: usize, room: &[u8], n: usize, instant: Instant, lengths: Lengths) -> Asked
+// By how many arguments there are, the program's own name among them; the first n bytes of the room that argument 1 was put into, and the
+// instant that argument 2 spells; the first m bytes of the room that argument 2 was put into, and the instant that argument 3 spells; and the
+// lengths that the arguments from 2 on spell.
+pub fn question_of(
+    count: usize,
+    room: &[u8],
+    n: usize,
+    instant: Instant,
+    second: &[u8],
+    m: usize,
+    later: Instant,
+    lengths: Lengths,
+) -> Asked
     requires { ⌜ longestWord ≤ length (now room) ⌝ }
     requires { ⌜ n ≤ length (now room) ⌝ }
-    ensures { λ r. ⌜ r ≡ asked count (take n (now (room .entry))) instant lengths ⌝ }
-    ensures { λ r. ⌜ ((arguments : List (List ℕ)) → Told arguments count (now (room .entry)) n instant lengths → r ≡ questionOf arguments) ⌝ }
+    requires { ⌜ longestWord ≤ length (now second) ⌝ }
+    requires { ⌜ m ≤ length (now second) ⌝ }
+    ensures { λ r. ⌜ r ≡ asked count (take n (now (room .entry))) instant (take m (now (second .entry))) later lengths ⌝ }
+    ensures { λ r. ⌜ ((arguments : List (List ℕ)) → Told arguments count (now (room .entry)) n instant (now (second .entry)) m later lengths → r ≡ questionOf arguments) ⌝ }
 {
-    asked_by(count, &room[..n], instant, lengths)
+    asked_by(count, &room[..n], instant, &second[..m], later, lengths)
 }

@@ -1,4 +1,5 @@
 // The word `rewrite`: the table read and written again (R-4).
+use crate::plains::plain_asked;
 use crate::questions::Asked;
 use crate::questions::Question;
 use scanning::Found;
@@ -21,6 +22,6 @@ pub fn rewrite_asked(word: &[u8]) -> Asked
     if is_rewrite(word) {
         Asked::Answer(Question::Rewrite)
     } else {
-        Asked::Usage
+        plain_asked(word)
     }
 }

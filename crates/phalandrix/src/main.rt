@@ -1,6 +1,7 @@
 // The program: a table on standard input; on standard output its report or, with `row T`, its row at instant T, or, with `rewrite`, the table
-// read and written again. With `batch` and lengths, tables end to end on standard input, and what is printed for each. With `salvage` the text
-// is mended, and what is left is printed; with `fixes` the list of what was changed.
+// read and written again. With `plain` and with `plain row T`, report and row by the plain engine. With `batch` and lengths, tables end to end
+// on standard input, and what is printed for each. With `salvage` the text is mended, and what is left is printed; with `fixes` the list of
+// what was changed.
 use asking::Asked;
 use asking::Instant;
 use asking::Lengths;
@@ -47,7 +48,7 @@ enum Line {
 fn print_usage() {
     io::write_all(
         STDERR_FILENO,
-        b"usage: phalandrix < TABLE          the report\n       phalandrix row T < TABLE    the row at instant T\n       phalandrix batch L1 .. Ln < TABLES    the reports of tables end to end, of these lengths\n       phalandrix rewrite < TABLE  the table, read and written again\n       phalandrix salvage < TEXT   the text mended\n       phalandrix fixes < TEXT     what was mended\n",
+        b"usage: phalandrix < TABLE          the report\n       phalandrix row T < TABLE    the row at instant T\n       phalandrix batch L1 .. Ln < TABLES    the reports of tables end to end, of these lengths\n       phalandrix rewrite < TABLE  the table, read and written again\n       phalandrix plain < TABLE    the report, by the plain engine\n       phalandrix plain row T < TABLE    the row, by the plain engine\n       phalandrix salvage < TEXT   the text mended\n       phalandrix fixes < TEXT     what was mended\n",
     );
 }
 
@@ -124,9 +125,21 @@ fn lengths_asked() -> Lengths {
 
 fn question_asked(lengths: Lengths) -> Asked {
     let mut room = [0u8; WORD_ROOM];
+    let mut second = [0u8; WORD_ROOM];
     let n = os::arg(1, &mut room);
     let instant = instant_asked(2);
-    asking::question_of(os::arg_count(), &room, n, instant, lengths)
+    let m = os::arg(2, &mut second);
+    let later = instant_asked(3);
+    asking::question_of(
+        os::arg_count(),
+        &room,
+        n,
+        instant,
+        &second,
+        m,
+        later,
+        lengths,
+    )
 }
 
 fn answer(q: Question) {

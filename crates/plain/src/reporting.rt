@@ -26,13 +26,9 @@ pub fn report_walk(table: Table, w: Walk, buffer: &mut [u8]) -> Answer
         How::Settled(k) => {
             let l = w.ledger;
             let worst = l.worst;
-            sheet::put_settled(
-                buffer,
-                k,
-                w.ticks,
-                sheet::figures_of(table.graph, worst),
-                table.graphs,
-            )
+            let graph = table.graph;
+            let figures = sheet::figures_of(graph, worst);
+            sheet::put_settled(buffer, k, w.ticks, figures, table.graphs)
         }
         How::Backlog => Answer::Refused(Refusal::Backlog),
         How::Unsettled => Answer::Refused(Refusal::Unsettled),

@@ -29,6 +29,8 @@ pub fn asked(q: Question, table: &[u8], text: &mut [u8]) -> Answer
         Question::Report => sheet::report(table, text),
         Question::Row(instant) => asked_row(table, instant as u64, text),
         Question::Rewrite => editing::rewrite(table, text),
+        Question::PlainReport => plain::plain_report(table, text),
+        Question::PlainRow(instant) => plain::plain_row(table, instant as u64, text),
     }
 }
 

@@ -3,7 +3,7 @@
 //! then the stack that each library's calls need.
 //!
 //! `bench [samples]`; build with `--release`, and with `--features proved` to
-//! time the proved library too.
+//! time the proved library too, and its plain engine.
 #![forbid(unsafe_code)]
 
 use bench::{print, stack, tables};
@@ -30,7 +30,8 @@ fn main() -> ExitCode {
     }
     let libraries: Vec<Box<dyn Library>> = names().iter().filter_map(|name| by_name(name)).collect();
     println!(
-        "ns per call, best of {samples} samples; ratio: the first library by the better rival; noise: middle by best"
+        "ns per call, best of {samples} samples, one of a call over half a second; \
+         ratio: the first library by the better rival; noise: middle by best"
     );
     let sections = [
         ("Document 01's tables", tables::document()),

@@ -19,6 +19,9 @@ pub struct Timing {
 /// A sample takes at least this long, by repeating the call.
 const SAMPLE: Duration = Duration::from_millis(10);
 
+/// A call that takes longer is timed once: the plain engine on a walk of many ticks.
+const SLOW: Duration = Duration::from_millis(500);
+
 /// Longer than any text.
 const BUFFER: usize = 512;
 
@@ -33,11 +36,16 @@ pub fn ticks(case: &Case) -> u32 {
 /// The report of a case by each library. Samples of the libraries take turns,
 /// so that a slow spell of the machine falls on all of them.
 pub fn time(case: &Case, libraries: &[Box<dyn Library>], samples: usize) -> Vec<Timing> {
-    let repeats: Vec<u32> = libraries.iter().map(|library| repeats(library.as_ref(), case)).collect();
-    let mut taken = vec![Vec::new(); libraries.len()];
+    let repeats: Vec<(u32, Duration)> =
+        libraries.iter().map(|library| repeats(library.as_ref(), case)).collect();
+    let mut taken: Vec<Vec<f64>> = vec![Vec::new(); libraries.len()];
     for _ in 0..samples {
-        for ((library, &repeats), taken) in libraries.iter().zip(&repeats).zip(&mut taken) {
-            taken.push(sample(library.as_ref(), case, repeats).as_nanos() as f64 / f64::from(repeats));
+        for ((library, &(repeats, first)), taken) in libraries.iter().zip(&repeats).zip(&mut taken) {
+            let slow = SLOW < first;
+            if !slow || taken.is_empty() {
+                let one = if slow { first } else { sample(library.as_ref(), case, repeats) };
+                taken.push(one.as_nanos() as f64 / f64::from(repeats));
+            }
         }
     }
     taken.into_iter().map(timing).collect()
@@ -52,13 +60,16 @@ fn sample(library: &dyn Library, case: &Case, repeats: u32) -> Duration {
     start.elapsed()
 }
 
-/// How often the call must be repeated to fill a sample.
-fn repeats(library: &dyn Library, case: &Case) -> u32 {
+/// How often the call must be repeated to fill a sample, and how long that took.
+fn repeats(library: &dyn Library, case: &Case) -> (u32, Duration) {
     let mut repeats = 1;
-    while sample(library, case, repeats) < SAMPLE {
+    loop {
+        let took = sample(library, case, repeats);
+        if took >= SAMPLE {
+            return (repeats, took);
+        }
         repeats *= 2;
     }
-    repeats
 }
 
 fn timing(mut taken: Vec<f64>) -> Timing {

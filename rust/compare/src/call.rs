@@ -22,6 +22,7 @@ pub struct Outcome {
 /// A call on which the library and the second simulator differ.
 #[derive(Clone, Debug, PartialEq, Eq)]
 pub struct Difference {
+    pub library: String,
     pub question: Question,
     pub buffer_length: usize,
     pub expected: Outcome,
@@ -57,11 +58,13 @@ pub fn difference(
         Question::Row(instant) => library.row(table, instant, &mut bytes[within]),
     };
     let got = Outcome { answer, walked, bytes };
-    (got != expected).then_some(Difference { question, buffer_length, expected, got })
+    let library = library.name().to_string();
+    (got != expected).then_some(Difference { library, question, buffer_length, expected, got })
 }
 
 impl fmt::Display for Difference {
     fn fmt(&self, out: &mut fmt::Formatter) -> fmt::Result {
+        write!(out, "{}: ", self.library)?;
         match self.question {
             Question::Report => write!(out, "report")?,
             Question::Row(instant) => write!(out, "row at {instant}")?,

@@ -17,21 +17,28 @@ pub struct Effort {
     /// Every instant below this is asked, if it is before the stop, and with
     /// them every instant far past it; if this is 0, only one of those is.
     pub first_instants: u64,
+    /// Ticks that its plain engine may walk for the table; of one longer walk in
+    /// `LONG_WALKS` the report is asked all the same.
+    pub plain_ticks: u64,
 }
 
 impl Effort {
     /// For many tables.
-    pub const USUAL: Effort = Effort { ticks: 12_000, first_instants: 0 };
+    pub const USUAL: Effort = Effort { ticks: 12_000, first_instants: 0, plain_ticks: 2_000 };
     /// For the steps of shrinking one table.
-    pub const SHRINKING: Effort = Effort { ticks: 100_000, first_instants: 300 };
+    pub const SHRINKING: Effort = Effort { ticks: 100_000, first_instants: 300, plain_ticks: 100_000 };
 }
 
-/// What came of a table: how many calls of each number, and the first difference.
+const LONG_WALKS: usize = 200;
+
+/// What came of a table: how many calls of each number, those of the plain engine
+/// apart, and the first difference.
 pub struct Checked {
     pub report: Reply,
     pub calls: Numbers,
     /// Rows answered at or past the stop.
     pub far: u64,
+    pub plain: Numbers,
     pub difference: Option<Difference>,
 }
 
@@ -55,11 +62,53 @@ pub fn check(library: &dyn Library, table: &[u8], effort: Effort, rng: &mut Rng)
     for instant in instants(answered.ticks(), affordable, effort, rng) {
         let reply = answered.row(instant);
         far += u64::from(instant >= ticks && matches!(reply, Reply::Text(_)));
-        for length in row_lengths(&reply, rng) {
+        for length in lengths(&reply, rng) {
             ask(Question::Row(instant), &reply, answered.ticks_to(instant), length);
         }
     }
-    Checked { report, calls, far, difference: first }
+    let mut plain = Numbers::default();
+    if let (Some(engine), None) = (library.plain(), &first) {
+        first = check_plain(engine, table, &answered, effort, rng, &mut plain);
+    }
+    Checked { report, calls, far, plain, difference: first }
+}
+
+/// The same questions to the plain engine, which goes tick by tick: as many as its
+/// ticks are enough for, and the first difference.
+fn check_plain(
+    engine: &dyn Library,
+    table: &[u8],
+    answered: &Answered,
+    effort: Effort,
+    rng: &mut Rng,
+    calls: &mut Numbers,
+) -> Option<Difference> {
+    let ticks = u64::from(answered.ticks().unwrap_or(0));
+    let mut left = effort.plain_ticks;
+    if left < ticks && rng.once_in(LONG_WALKS) {
+        left = 2 * ticks;
+    }
+    let affordable = (left / (ticks + 1)) as usize;
+    let rows = instants(answered.ticks(), affordable, effort, rng).into_iter().map(Question::Row);
+    for question in [Question::Report].into_iter().chain(rows) {
+        // A row past the stop is walked twice.
+        let (reply, told, walked) = match question {
+            Question::Report => (answered.report(), 0, ticks),
+            Question::Row(instant) if instant < ticks => (answered.row(instant), answered.ticks_to(instant), instant),
+            Question::Row(instant) => (answered.row(instant), answered.ticks_to(instant), 2 * ticks),
+        };
+        for length in lengths(&reply, rng) {
+            if walked <= left {
+                left -= walked;
+                calls[number(&reply, length)] += 1;
+                let found = difference(engine, table, question, (&reply, told), length);
+                if found.is_some() {
+                    return found;
+                }
+            }
+        }
+    }
+    None
 }
 
 /// The number that a call with this buffer is answered with.
@@ -79,7 +128,7 @@ fn report_lengths(reply: &Reply, affordable: usize, rng: &mut Rng) -> Vec<usize>
 
 /// One long enough, and one that may be anything around the text's length; on
 /// a refusal a short and a long one.
-fn row_lengths(reply: &Reply, rng: &mut Rng) -> [usize; 2] {
+fn lengths(reply: &Reply, rng: &mut Rng) -> [usize; 2] {
     match reply {
         Reply::Text(text) => [text.len() + rng.pick(&[0, 1, 150]), rng.below(text.len() + 3)],
         Reply::Refused { .. } => [rng.below(4), 250],

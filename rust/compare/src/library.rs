@@ -12,6 +12,11 @@ pub trait Library: Sync {
     fn row(&self, table: &[u8], instant: u64, buffer: &mut [u8]) -> (Answer, u32);
     fn batch(&self, tables: &[u8], lengths: &[usize], buffer: &mut [u8]) -> Batch;
 
+    /// Its plain engine, as a library of its own; none where it has no such engine.
+    fn plain(&self) -> Option<&dyn Library> {
+        None
+    }
+
     /// The plain one for all but the proved library: there is one pace only.
     fn salvage(&self, given: &[u8], text: &mut [u8], list: &mut [u8]) -> Salvaged {
         let baseline::Salvaged { number, text_length, list_length } = baseline::salvage(given, text, list);
@@ -52,26 +57,30 @@ impl Library for Plain {
         (Answer { number, line, column, length }, walked)
     }
 
-    /// The plain engines have no such call: theirs is made of their reports.
     fn batch(&self, tables: &[u8], lengths: &[usize], buffer: &mut [u8]) -> Batch {
-        let total = lengths.iter().try_fold(0usize, |sum, &length| sum.checked_add(length));
-        let count = u32::try_from(lengths.len()).unwrap_or(u32::MAX);
-        if !limits::TABLES.holds(count) || total != Some(tables.len()) {
-            return Batch { number: 11, line: 0, column: 0, answers: Vec::new() };
-        }
-        let size = buffer.len() / lengths.len();
-        let mut shares = buffer.chunks_exact_mut(size.max(1));
-        let mut at = 0;
-        let answers = lengths
-            .iter()
-            .map(|&length| {
-                at += length;
-                let share = if size == 0 { Default::default() } else { shares.next().unwrap_or_default() };
-                self.report(&tables[at - length..at], share)
-            })
-            .collect();
-        Batch { number: 0, line: 0, column: 0, answers }
+        batch_of_reports(self, tables, lengths, buffer)
     }
+}
+
+/// The call on several tables of a library that has no such call: made of its reports.
+fn batch_of_reports(library: &dyn Library, tables: &[u8], lengths: &[usize], buffer: &mut [u8]) -> Batch {
+    let total = lengths.iter().try_fold(0usize, |sum, &length| sum.checked_add(length));
+    let count = u32::try_from(lengths.len()).unwrap_or(u32::MAX);
+    if !limits::TABLES.holds(count) || total != Some(tables.len()) {
+        return Batch { number: 11, line: 0, column: 0, answers: Vec::new() };
+    }
+    let size = buffer.len() / lengths.len();
+    let mut shares = buffer.chunks_exact_mut(size.max(1));
+    let mut at = 0;
+    let answers = lengths
+        .iter()
+        .map(|&length| {
+            at += length;
+            let share = if size == 0 { Default::default() } else { shares.next().unwrap_or_default() };
+            library.report(&tables[at - length..at], share)
+        })
+        .collect();
+    Batch { number: 0, line: 0, column: 0, answers }
 }
 
 /// The proved library, through its C interface.
@@ -93,6 +102,10 @@ impl Library for Proved {
         let phalandrix::RowAnswer { number, line, column, walked, length } =
             phalandrix::row(table, instant, buffer);
         (Answer { number, line, column, length }, walked)
+    }
+
+    fn plain(&self) -> Option<&dyn Library> {
+        Some(&ProvedPlain)
     }
 
     fn salvage(&self, given: &[u8], text: &mut [u8], list: &mut [u8]) -> Salvaged {
@@ -119,6 +132,7 @@ impl Library for Proved {
             .collect();
         Batch { number: batch.number, line: batch.line, column: batch.column, answers }
     }
+
     fn read(&self, table: &[u8]) -> Option<Result<Memory, Refusal>> {
         let phalandrix::Reading { number, line, column, table } = phalandrix::read(table);
         let memory = simulated(&table);
@@ -132,6 +146,32 @@ impl Library for Proved {
     fn write(&self, memory: &Memory, buffer: &mut [u8]) -> Option<Answer> {
         let phalandrix::Answer { number, line, column, length } = phalandrix::write(&linked(memory), buffer);
         Some(Answer { number, line, column, length })
+    }
+}
+
+/// The plain engine of the proved library.
+#[cfg(feature = "proved")]
+pub struct ProvedPlain;
+
+#[cfg(feature = "proved")]
+impl Library for ProvedPlain {
+    fn name(&self) -> &str {
+        "plain"
+    }
+
+    fn report(&self, table: &[u8], buffer: &mut [u8]) -> Answer {
+        let phalandrix::Answer { number, line, column, length } = phalandrix::plain_report(table, buffer);
+        Answer { number, line, column, length }
+    }
+
+    fn row(&self, table: &[u8], instant: u64, buffer: &mut [u8]) -> (Answer, u32) {
+        let phalandrix::RowAnswer { number, line, column, walked, length } =
+            phalandrix::plain_row(table, instant, buffer);
+        (Answer { number, line, column, length }, walked)
+    }
+
+    fn batch(&self, tables: &[u8], lengths: &[usize], buffer: &mut [u8]) -> Batch {
+        batch_of_reports(self, tables, lengths, buffer)
     }
 }
 
@@ -158,7 +198,11 @@ fn simulated(table: &phalandrix::Table) -> Memory {
 
 /// The names `by_name` knows, the default first.
 pub fn names() -> &'static [&'static str] {
-    if cfg!(feature = "proved") { &["proved", "tick", "event", "tuned"] } else { &["tick", "event", "tuned"] }
+    if cfg!(feature = "proved") {
+        &["proved", "plain", "tick", "event", "tuned"]
+    } else {
+        &["tick", "event", "tuned"]
+    }
 }
 
 pub fn by_name(name: &str) -> Option<Box<dyn Library>> {
@@ -168,6 +212,8 @@ pub fn by_name(name: &str) -> Option<Box<dyn Library>> {
         "tuned" => Some(Box::new(Plain(Pace::Tuned))),
         #[cfg(feature = "proved")]
         "proved" => Some(Box::new(Proved)),
+        #[cfg(feature = "proved")]
+        "plain" => Some(Box::new(ProvedPlain)),
         _ => None,
     }
 }

@@ -13,6 +13,9 @@ pub const REFUSALS: [usize; 12] = [1, 2, 3, 4, 5, 6, 7, 8, 9, 10, 11, 12];
 /// How often there was each number: 0 for an answer, else the refusal.
 pub type Numbers = [u64; REFUSALS[REFUSALS.len() - 1] + 1];
 
+/// What the plain engine can answer: a text, or any refusal of a report or a row.
+const OF_PLAIN: [usize; 12] = [0, 1, 2, 3, 4, 5, 6, 7, 8, 9, 10, 12];
+
 /// How often each outcome came up.
 #[derive(Clone, Debug, Default, PartialEq, Eq)]
 pub struct Outcomes {
@@ -22,6 +25,8 @@ pub struct Outcomes {
     pub calls: Numbers,
     /// Rows answered at or past the stop.
     pub far: u64,
+    /// Calls of the plain engine by the number of their answer; none where the library has no such engine.
+    pub plain: Numbers,
     /// Calls on several tables that were answered.
     pub batches: u64,
     /// Tables looked at for demand 3.
@@ -53,6 +58,9 @@ impl Outcomes {
         all.push(("a row past the stop".into(), self.far));
         all.extend(refusals);
         all.push(("an answered call on several tables".into(), self.batches));
+        if self.plain != Numbers::default() {
+            all.extend(OF_PLAIN.map(|number| (format!("{number} from the plain engine"), self.plain[number])));
+        }
         all.extend(self.mendings.counts());
         if by_force {
             all.push(("an invocation within its figure".into(), self.invocations));
@@ -71,6 +79,7 @@ impl AddAssign<&Outcomes> for Outcomes {
         add(&mut self.reports, &other.reports);
         add(&mut self.calls, &other.calls);
         self.far += other.far;
+        add(&mut self.plain, &other.plain);
         self.batches += other.batches;
         self.forced += other.forced;
         self.invocations += other.invocations;
@@ -90,6 +99,8 @@ impl fmt::Display for Outcomes {
         for number in REFUSALS {
             write!(out, ", refused as {number} {}", self.calls[number])?;
         }
+        let plain: u64 = self.plain.iter().sum();
+        write!(out, "; {plain} calls of the plain engine, {} answered", self.plain[0])?;
         write!(out, "; {} calls answered on several tables", self.batches)?;
         write!(
             out,

@@ -131,6 +131,61 @@ fn length_told_on_a_refusal() {
     assert!(matches!(question, Question::Row(_)));
 }
 
+/// A library whose plain engine is spoilt, and nothing else.
+struct SpoiltPlain<F>(Spoilt<F>);
+
+impl<F: Fn(Question, &[u8], &mut [u8], Answer) -> Answer + Sync> Library for SpoiltPlain<F> {
+    fn name(&self) -> &str {
+        "right"
+    }
+
+    fn report(&self, table: &[u8], buffer: &mut [u8]) -> Answer {
+        Plain(Pace::Tick).report(table, buffer)
+    }
+
+    fn row(&self, table: &[u8], instant: u64, buffer: &mut [u8]) -> Answer {
+        Plain(Pace::Tick).row(table, instant, buffer)
+    }
+
+    fn batch(&self, tables: &[u8], lengths: &[usize], buffer: &mut [u8]) -> Batch {
+        Plain(Pace::Tick).batch(tables, lengths, buffer)
+    }
+
+    fn plain(&self) -> Option<&dyn Library> {
+        Some(&self.0)
+    }
+}
+
+/// The library and the question of the first difference.
+fn found_plain(spoil: impl Fn(Question, &[u8], &mut [u8], Answer) -> Answer + Sync) -> (String, Question) {
+    let options = Options { seed: 1, count: 2_000, force: 0, ..Options::default() };
+    match run(&SpoiltPlain(Spoilt(spoil)), &options) {
+        Err(Fault::Differs { difference, .. }) => (difference.library, difference.question),
+        other => panic!("the fault was not found: {other:?}"),
+    }
+}
+
+#[test]
+fn plain_engine_with_another_refusal() {
+    let (library, question) = found_plain(|_, _, _, mut answer| {
+        answer.number += u32::from(answer.number == 7);
+        answer
+    });
+    assert_eq!((library.as_str(), question), ("spoilt", Question::Report));
+}
+
+#[test]
+fn plain_engine_with_another_row() {
+    let (library, question) = found_plain(|question, _, buffer, answer| {
+        if matches!(question, Question::Row(3..)) && answer.number == 0 && answer.length > 0 {
+            buffer[answer.length - 2] ^= 1;
+        }
+        answer
+    });
+    assert_eq!(library, "spoilt");
+    assert!(matches!(question, Question::Row(3..)), "{question:?}");
+}
+
 #[test]
 fn fault_shows_the_table_and_both_answers() {
     let spoil = |_: Question, _: &[u8], _: &mut [u8], mut answer: Answer| {

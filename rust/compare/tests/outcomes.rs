@@ -20,6 +20,7 @@ fn all() -> Outcomes {
         reports: once,
         calls: once,
         far: 1,
+        plain: once,
         batches: 1,
         forced: 1,
         invocations: 1,
@@ -38,6 +39,12 @@ fn each_outcome_is_missed() {
         without.calls[number] = 0;
         assert_eq!(without.missing(true), [format!("refusal {number}")]);
     }
+    for number in (0..=12).filter(|&number| number != 11) {
+        let mut without = all();
+        without.plain[number] = 0;
+        assert_eq!(without.missing(true), [format!("{number} from the plain engine")]);
+    }
+    assert!(Outcomes { plain: Numbers::default(), ..all() }.missing(true).is_empty(), "no such engine");
     for kind in 1..=KINDS {
         let mut without = all();
         without.mendings.fixes[kind] = 0;

@@ -103,6 +103,19 @@ unsafe extern "C" {
         buffer: *mut u8,
         buffer_len: usize,
     ) -> RowAnswer;
+    fn phalandrix_plain_report(
+        table: *const u8,
+        table_len: usize,
+        buffer: *mut u8,
+        buffer_len: usize,
+    ) -> Answer;
+    fn phalandrix_plain_row(
+        table: *const u8,
+        table_len: usize,
+        instant: u64,
+        buffer: *mut u8,
+        buffer_len: usize,
+    ) -> RowAnswer;
     fn phalandrix_batch(
         tables: *const u8,
         tables_len: usize,
@@ -127,6 +140,19 @@ pub fn report(table: &[u8], buffer: &mut [u8]) -> Answer {
 pub fn row(table: &[u8], instant: u64, buffer: &mut [u8]) -> RowAnswer {
     // SAFETY: as in `report`; the instant is a plain number.
     unsafe { phalandrix_row(table.as_ptr(), table.len(), instant, buffer.as_mut_ptr(), buffer.len()) }
+}
+
+/// What [`report`] gives, by the plain engine: it goes tick by tick in the order of the rules, and takes
+/// longer and more stack ([`PLAIN_STACK_BYTES`](crate::PLAIN_STACK_BYTES)).
+pub fn plain_report(table: &[u8], buffer: &mut [u8]) -> Answer {
+    // SAFETY: as in `report`.
+    unsafe { phalandrix_plain_report(table.as_ptr(), table.len(), buffer.as_mut_ptr(), buffer.len()) }
+}
+
+/// What [`row`] gives, by the plain engine.
+pub fn plain_row(table: &[u8], instant: u64, buffer: &mut [u8]) -> RowAnswer {
+    // SAFETY: as in `row`.
+    unsafe { phalandrix_plain_row(table.as_ptr(), table.len(), instant, buffer.as_mut_ptr(), buffer.len()) }
 }
 
 /// The reports of 1 to 16 tables that stand end to end, with a list of their lengths. The lent buffer is cut

@@ -3,9 +3,10 @@
 //! [`Table`] is a table as an editor holds it, parsed from text and written back to it.
 //!
 //! [`report_of`] and [`row_at`] give an answer or a [`Refusal`]; [`report`] and [`row`] are the plain
-//! calls below them, with a buffer lent by the caller. [`batch`] reports several tables in one call, and
-//! [`shares`] goes over its results. docs/TABLE.md in the repository says what a table
-//! and its answers mean.
+//! calls below them, with a buffer lent by the caller. [`plain_report`] and [`plain_row`] give the same by
+//! the plain engine, which is there for reviewers of the rules. [`batch`] reports several tables in one call,
+//! and [`shares`] goes over its results. docs/TABLE.md in the repository says what a table and its answers
+//! mean.
 //!
 //! ```
 //! let table = b"processors=1\nrounds=64\ngraphs=1\nperiod=4\noffset=0\nnodes=2\n\
@@ -50,10 +51,10 @@ mod salvage;
 mod tables;
 mod text;
 
-pub use calls::{Answer, BatchAnswer, RowAnswer, batch, report, row, shares};
+pub use calls::{Answer, BatchAnswer, RowAnswer, batch, plain_report, plain_row, report, row, shares};
 pub use refusal::{
-    FIXES_BYTES, InTable, REPORT_BYTES, ROW_BYTES, Reason, Refusal, SALVAGE_BYTES, STACK_BYTES, TABLES,
-    VERSION, WRITTEN_BYTES,
+    FIXES_BYTES, InTable, PLAIN_STACK_BYTES, REPORT_BYTES, ROW_BYTES, Reason, Refusal, SALVAGE_BYTES,
+    STACK_BYTES, TABLES, VERSION, WRITTEN_BYTES,
 };
 pub use reports::{Report, report_of};
 pub use rows::{Row, Run, row_at};

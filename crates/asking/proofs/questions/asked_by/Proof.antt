@@ -16,7 +16,7 @@ batch-asked-requires c κs = search needs
 
 returns-2 : tie.Need-returns-2
 returns-2 c =
-    let count = c .before .before .before .before .before .args .count in
+    let count = c .before .before .before .before .before .before .args .count in
     rw (ne-eqb count 1 (c .before .before .before .if1 .left), sym (c .before .before .is-batch .ensures) ∙ c .before .if2 .taken) (c .batch-asked .ensures)
 
 text-asked-by-requires : tie.Need-text-asked-by-requires
@@ -24,7 +24,7 @@ text-asked-by-requires c κs = search needs
 
 returns-3 : tie.Need-returns-3
 returns-3 c =
-    let count = c .before .before .before .before .before .args .count in
+    let count = c .before .before .before .before .before .before .args .count in
     rw (ne-eqb count 1 (c .before .before .before .if1 .left), sym (c .before .before .is-batch .ensures) ∙ c .before .if2 .left) (c .text-asked-by .ensures)
 
 pub asked-by-spec : {M : Type 1} → statement M

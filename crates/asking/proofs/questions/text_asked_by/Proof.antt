@@ -24,11 +24,27 @@ returns-2 c =
 returns-3 : tie.Need-returns-3
 returns-3 c = rw (c .before .before .if2 .taken, sym (c .before .is-row .ensures) ∙ c .if3 .left)
 
+plain-asked-by-requires : tie.Need-plain-asked-by-requires
+plain-asked-by-requires c κs = search needs
+
 returns-4 : tie.Need-returns-4
-returns-4 c =
-    let count = c .before .before .before .args .count in
-    rw (ne-eqb count 2 (c .before .if1 .left), ne-eqb count 3 (c .if2 .left))
+returns-4 c = rw (c .before .if4 .taken) (c .plain-asked-by .ensures)
+
+returns-5 : tie.Need-returns-5
+returns-5 c =
+    let count = c .before .before .before .before .before .args .count in
+    rw (ne-eqb count 2 (c .before .before .if1 .left), ne-eqb count 3 (c .before .if2 .left), ne-eqb count 4 (c .if4 .left))
 
 pub text-asked-by-spec : {M : Type 1} → statement M
 text-asked-by-spec =
-    tie.close (tie.spec output-asked-requires returns is-row-requires row-asked-requires returns-2 returns-3 returns-4)
+    tie.close
+    (tie.spec
+    output-asked-requires
+    returns
+    is-row-requires
+    row-asked-requires
+    returns-2
+    returns-3
+    plain-asked-by-requires
+    returns-4
+    returns-5)

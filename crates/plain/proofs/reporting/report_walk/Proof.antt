@@ -27,7 +27,9 @@ same-length : tie.Need-same-length
 same-length c = search needs
 
 returns : tie.Need-returns
-returns c = rw (c .before .before .before .before .before .before .before .before .how .given .1) (c .before .before .put-settled .ensures ∙ rw (c .before .before .before .figures-of .ensures))
+returns c =
+    rw (c .before .before .before .before .before .before .before .before .before .how .given .1)
+    (c .before .before .put-settled .ensures ∙ rw (c .before .before .before .before .figures-of .ensures))
 
 returns-2 : tie.Need-returns-2
 returns-2 c = rw (c .enum-told .given .1) (refused-call _ _)

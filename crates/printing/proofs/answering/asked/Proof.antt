@@ -24,6 +24,21 @@ enum-told-2 c = search needs
 rewrite-requires : tie.Need-rewrite-requires
 rewrite-requires c κs = search needs
 
+enum-told-3 : tie.Need-enum-told-3
+enum-told-3 c = search needs
+
+plain-report-requires : tie.Need-plain-report-requires
+plain-report-requires c κs = search needs
+
+enum-known-q-2 : tie.Need-enum-known-q-2
+enum-known-q-2 c = search needs
+
+cast-plain-row : tie.Need-cast-plain-row
+cast-plain-row c = search needs
+
+plain-row-requires : tie.Need-plain-row-requires
+plain-row-requires c κs = search needs
+
 same-length : tie.Need-same-length
 same-length c = search needs
 
@@ -42,6 +57,18 @@ same-length-3 c = search needs
 returns-3 : tie.Need-returns-3
 returns-3 c = rw (c .before .before .before .before .enum-told2 .given .1) (c .before .before .rewrite .ensures)
 
+same-length-4 : tie.Need-same-length-4
+same-length-4 c = search needs
+
+returns-4 : tie.Need-returns-4
+returns-4 c = rw (c .before .before .before .before .enum-told3 .given .1) (c .before .before .plain-report .ensures .0)
+
+same-length-5 : tie.Need-same-length-5
+same-length-5 c = search needs
+
+returns-5 : tie.Need-returns-5
+returns-5 c = rw (c .before .before .before .before .before .q2 .given .1) (c .before .before .plain-row .ensures)
+
 pub asked-spec : {M : Type 1} → statement M
 asked-spec =
     tie.close
@@ -53,9 +80,18 @@ asked-spec =
     asked-row-requires
     enum-told-2
     rewrite-requires
+    enum-told-3
+    plain-report-requires
+    enum-known-q-2
+    cast-plain-row
+    plain-row-requires
     same-length
     returns
     same-length-2
     returns-2
     same-length-3
-    returns-3)
+    returns-3
+    same-length-4
+    returns-4
+    same-length-5
+    returns-5)
