@@ -25,7 +25,7 @@ use Rattle.rows.specs.Showing.{blank, picksOf, entryOf, rowTo, rowOf}
 use Rattle.rows.proofs.Entries.{row-few}
 use Rattle.rows.proofs.Shown.{row-shown}
 use Rattle.repeating.specs.Moving.{noRun}
-use Rattle.looking.proofs.Looked.{endOf, Looked}
+use Rattle.looking.proofs.Looked.{endOf, stop, Looked}
 use Rattle.sheet.specs.Walks.{plannedOf, walkOfTable}
 use Rattle.sheet.specs.Rows.{endBy, lookAt, lookOf}
 use Rattle.sheet.proofs.TableWalks.{M, a, table-walked}
@@ -63,7 +63,7 @@ module _ (U : Table) (ok : T (wellFormed U)) (short : hyperperiod U ≤ Limits.h
       (λ s. record {
         reached = λ l. absurd (let x : ⊥ = omega (arith, s .0) in x);
         shows = λ l. absurd (let x : ⊥ = omega (arith, s .0) in x);
-        end = λ l. rw (s .1 .how) (end-of _);
+        end = λ l. rw (s .1 .how) (end-of (stop X .how));
         ticks = λ l. s .1 .ticks;
         room = room;
       })

@@ -57,7 +57,8 @@ pub extern "C" fn phalandrix_report(table: &[u8], buffer: &mut [u8]) -> Phalandr
 pub fn told_row(a: RowAnswer) -> PhalandrixRowAnswer
     ensures { λ r. ⌜ r ≡ toldRow (a .answer) (a .walked) ⌝ }
 {
-    let t = told(a.answer);
+    let answer = a.answer;
+    let t = told(answer);
     PhalandrixRowAnswer {
         number: t.number,
         line: t.line,

@@ -93,10 +93,11 @@ pub fn row(table: &[u8], instant: u64, buffer: &mut [u8]) -> RowAnswer
             match how {
                 How::Reached => put_row(buffer, shown(p.plan, offsets, w.state), t),
                 How::Settled(_) => {
+                    let graph = p.graph;
                     let at = repeating::matching(hyper, w.ticks, t);
                     let u = walking::walk_to(p.plan, offsets, p.origin, hyper, p.rounds, at);
                     let there = shown(p.plan, offsets, u.state);
-                    let far = repeating::far_row(there, p.graph, hyper, w.ticks, t);
+                    let far = repeating::far_row(there, graph, hyper, w.ticks, t);
                     put_row(buffer, far, w.ticks)
                 }
                 How::Unsettled => told_with(Answer::Refused(Refusal::PastTheStop), 0),
