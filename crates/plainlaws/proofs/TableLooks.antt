@@ -15,10 +15,12 @@ use Rattle.theorems.proofs.FirstStop.{stops-in-time}
 use Rattle.rules.specs.Admission.{admitted}
 use Rattle.reading.specs.Memory.{memoryOf}
 use Rattle.admission.specs.Admission.{codedAdmission}
+use Rattle.admission.specs.declared.admitting.Admitted.{Admitted}
 use Rattle.window.specs.declared.Plan.{Plan}
 use Rattle.planning.specs.Plans.{planOf}
 use Rattle.planning.specs.Offsets.{offsetsOf}
 use Rattle.planning.proofs.Boundaries.{last-boundary}
+use Rattle.looking.specs.declared.Look.{Look}
 use Rattle.looking.proofs.Looked.{endOf, stop, Looked}
 use Rattle.ledger.specs.Showing.{rowOf}
 use Rattle.ledger.specs.declared.Ledger.{Ledger}
@@ -38,6 +40,11 @@ end-of backlog = refl
 row-room : (plan : Plan) (offsets : List ℕ) (l : Ledger) → rowOf plan offsets l .count ≤ length (rowOf plan offsets l .run)
 unfolding rowOf
 row-room plan offsets l = omega (arith, row-few plan offsets l, run-length plan offsets l (min (plan .processors) (Limits.processors .to)))
+
+-- its text is written from no more entries than there can be processors
+pub look-few : (a : Admitted) (t : ℕ) (l : Look) → l ≡ lookOf a t → l .row .count ≤ Limits.processors .to
+unfolding lookOf
+look-few a t l e = rw e (row-few (planOf (a .table)) (offsetsOf (a .table)) (walkOfTable a t .ledger))
 
 module _ (U : Table) (ok : T (wellFormed U)) (short : hyperperiod U ≤ Limits.hyperperiod .to) (t : ℕ) where
   abbrev X : Box

@@ -143,7 +143,7 @@ impl<F: Fn(Question, &[u8], &mut [u8], Answer) -> Answer + Sync> Library for Spo
         Plain(Pace::Tick).report(table, buffer)
     }
 
-    fn row(&self, table: &[u8], instant: u64, buffer: &mut [u8]) -> Answer {
+    fn row(&self, table: &[u8], instant: u64, buffer: &mut [u8]) -> (Answer, u32) {
         Plain(Pace::Tick).row(table, instant, buffer)
     }
 

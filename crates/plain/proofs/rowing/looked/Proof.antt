@@ -21,7 +21,14 @@ end-by-requires c κs = search needs
 
 returns : tie.Need-returns
 unfolding lookOf
-returns c = ?
+returns c =
+    rw (
+      c .end-by .ensures,
+      c .before .row-of .ensures,
+      c .before .before .offsets-of .ensures,
+      c .before .before .before .plan-of .ensures,
+      c .before .before .before .before .before .before .walked .ensures,
+    )
 
 pub looked-spec : {M : Type 1} → statement M
 looked-spec =
