@@ -10,9 +10,10 @@
  * Platform: x86-64 Linux. `./build-library` makes target/staticlib/libphalandrix.a, which needs
  * memcpy and memset and nothing else.
  *
- * Time: a walk has at most 1,290,000 ticks for a table. The longest walks took 0.01 to 0.06 seconds
- * where they were measured (docs/BENCHMARK.md); that is not proved. A row past the stop is walked
- * twice: to the stop, and to the instant that matches. Stack: PHALANDRIX_STACK_BYTES, below.
+ * Time: a walk has at most 1,290,000 ticks. The longest walks took 0.01 to 0.06 seconds where they
+ * were measured, and some 2 seconds by the plain engine (docs/BENCHMARK.md); that is not proved. A row
+ * past the stop is walked twice: to the stop, and to the instant that matches. Stack:
+ * PHALANDRIX_STACK_BYTES and PHALANDRIX_PLAIN_STACK_BYTES, below.
  *
  * This file is the home of the version, of the sentences for people, and of the sizes below: ./run
  * and the Rust package read them from here.

@@ -17,8 +17,7 @@ pub struct Effort {
     /// Every instant below this is asked, if it is before the stop, and with
     /// them every instant far past it; if this is 0, only one of those is.
     pub first_instants: u64,
-    /// Ticks that its plain engine may walk for the table; of one longer walk in
-    /// `LONG_WALKS` the report is asked all the same.
+    /// Ticks that its plain engine may walk for the table, beyond one report.
     pub plain_ticks: u64,
 }
 
@@ -28,8 +27,6 @@ impl Effort {
     /// For the steps of shrinking one table.
     pub const SHRINKING: Effort = Effort { ticks: 100_000, first_instants: 300, plain_ticks: 100_000 };
 }
-
-const LONG_WALKS: usize = 200;
 
 /// What came of a table: how many calls of each number, those of the plain engine
 /// apart, and the first difference.
@@ -73,8 +70,8 @@ pub fn check(library: &dyn Library, table: &[u8], effort: Effort, rng: &mut Rng)
     Checked { report, calls, far, plain, difference: first }
 }
 
-/// The same questions to the plain engine, which goes tick by tick: as many as its
-/// ticks are enough for, and the first difference.
+/// Questions to the plain engine, which goes tick by tick: the report, and as many
+/// more as its ticks are enough for; and the first difference.
 fn check_plain(
     engine: &dyn Library,
     table: &[u8],
@@ -84,11 +81,8 @@ fn check_plain(
     calls: &mut Numbers,
 ) -> Option<Difference> {
     let ticks = u64::from(answered.ticks().unwrap_or(0));
-    let mut left = effort.plain_ticks;
-    if left < ticks && rng.once_in(LONG_WALKS) {
-        left = 2 * ticks;
-    }
-    let affordable = (left / (ticks + 1)) as usize;
+    let mut left = effort.plain_ticks + ticks;
+    let affordable = (effort.plain_ticks / (ticks + 1)) as usize;
     let rows = instants(answered.ticks(), affordable, effort, rng).into_iter().map(Question::Row);
     for question in [Question::Report].into_iter().chain(rows) {
         // A row past the stop is walked twice.

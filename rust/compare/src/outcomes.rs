@@ -59,7 +59,9 @@ impl Outcomes {
         all.extend(refusals);
         all.push(("an answered call on several tables".into(), self.batches));
         if self.plain != Numbers::default() {
-            all.extend(OF_PLAIN.map(|number| (format!("{number} from the plain engine"), self.plain[number])));
+            all.extend(
+                OF_PLAIN.map(|number| (format!("{number} from the plain engine"), self.plain[number])),
+            );
         }
         all.extend(self.mendings.counts());
         if by_force {

@@ -5,7 +5,7 @@ use compare::library::{Library, Plain};
 use compare::writer::{Seen, check};
 use generator::{Rng, make};
 use simulator::memory::{Memory, read, write};
-use simulator::{Answer, Refusal, lend};
+use simulator::{Answer, Batch, Refusal, lend};
 
 /// A writer that is the second simulator's own, but for what `fault` makes of a table in memory before it
 /// is written.
@@ -22,6 +22,10 @@ impl Library for Faulty {
 
     fn row(&self, table: &[u8], instant: u64, buffer: &mut [u8]) -> (Answer, u32) {
         Plain(Pace::Event).row(table, instant, buffer)
+    }
+
+    fn batch(&self, tables: &[u8], lengths: &[usize], buffer: &mut [u8]) -> Batch {
+        Plain(Pace::Event).batch(tables, lengths, buffer)
     }
 
     fn read(&self, table: &[u8]) -> Option<Result<Memory, Refusal>> {
