@@ -1,8 +1,11 @@
 -- What a read leaves.
 use mathlib.Core.Bool.{cond}
+use mathlib.Core.List.{List}
 use Prim.Native.Nat.{ℕ, zero, suc, _+_, _≤_, _<_}
 use lib.Dec.{ltb}
+use lib.ListN.{length, getD}
 use lib.IntN.{ℤ, pos, negsuc}
+use Rattle.scanning.specs.Positions.{far}
 use Rattle.io.specs.Counts.{clamped}
 use Rattle.inputs.specs.declared.reading.Input.{Input}
 use Rattle.inputs.specs.declared.reading.Input.the-variants as Input
@@ -57,3 +60,15 @@ Further done room (Progress.Over input) = Within room input
 -- a piece of an input
 abbrev pub pieceBytes : ℕ
 pieceBytes = 512
+
+-- a table is taken whole only where its length is one: `far` stands for every length that is none
+abbrev pub IsLength : ℕ → Taken → Type 0
+IsLength bytes Taken.Whole = bytes < far
+IsLength bytes Taken.Wrong = Unit {0}
+IsLength bytes Taken.Failed = Unit {0}
+
+-- and so of all of them
+abbrev pub AreLengths : List ℕ → Taken → Type 0
+AreLengths lengths Taken.Whole = (i : ℕ) → i < length lengths → getD lengths i 0 < far
+AreLengths lengths Taken.Wrong = Unit {0}
+AreLengths lengths Taken.Failed = Unit {0}

@@ -108,15 +108,3 @@ pub fn ended(input: Input) -> Taken
         Input::Bytes(n) => { if n == 0 { Taken::Whole } else { Taken::Wrong } }
     }
 }
-
-pub fn fill(fd: i32, space: &mut [u8]) -> Taken {
-    let n = space.len();
-    let input = read_input(fd, space);
-    filled(input, n)
-}
-
-pub fn at_end(fd: i32) -> Taken {
-    let mut byte = [0u8; 1];
-    let input = read_input(fd, &mut byte);
-    ended(input)
-}

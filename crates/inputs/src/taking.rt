@@ -1,25 +1,39 @@
 // Tables out of an input that has them end to end.
 use crate::reading::PIECE;
 use crate::reading::Taken;
-use crate::reading::at_end;
-use crate::reading::fill;
+use crate::reading::ended;
+use crate::reading::filled;
+use crate::reading::read_input;
 use printing::SLOT;
 use printing::least;
 ghost use Prim.Native.Nat.{_≤_};
 ghost use lib.ListN.{length};
 ghost use Rattle.schedule.specs.Limits as Limits;
 ghost use Rattle.printing.specs.Batches.{slotsBytes};
-ghost use Rattle.inputs.specs.Inputs.{pieceBytes};
+ghost use Rattle.inputs.specs.Inputs.{pieceBytes, IsLength, AreLengths};
+
+// The bytes that come next, into all of the space; and whether none comes next.
+fn fill(fd: i32, space: &mut [u8]) -> Taken {
+    let n = space.len();
+    let input = read_input(fd, space);
+    filled(input, n)
+}
+
+fn at_end(fd: i32) -> Taken {
+    let mut byte = [0u8; 1];
+    let input = read_input(fd, &mut byte);
+    ended(input)
+}
 
 // Bytes that nobody needs: a piece of them, and all.
-pub fn skip_piece(fd: i32, n: usize) -> Taken
+fn skip_piece(fd: i32, n: usize) -> Taken
     requires { ⌜ n ≤ pieceBytes ⌝ }
 {
     let mut piece = [0u8; PIECE];
     fill(fd, &mut piece[..n])
 }
 
-pub fn skip(fd: i32, n: usize) -> Taken {
+fn skip(fd: i32, n: usize) -> Taken {
     let mut left = n;
     while left > 0 {
         let k = least(left, PIECE);
@@ -40,7 +54,9 @@ pub fn skip(fd: i32, n: usize) -> Taken {
 
 // The next table of an input, of that length. Of one that is longer than its slot, what does not fit is passed over: a slot past the limit of a
 // table's bytes holds enough to refuse it. The largest u32 stands for every length that is none.
-pub fn take_table(fd: i32, bytes: usize, slot: &mut [u8]) -> Taken {
+fn take_table(fd: i32, bytes: usize, slot: &mut [u8]) -> Taken
+    ensures { λ r. ⌜ IsLength bytes r ⌝ }
+{
     if u32::MAX as usize <= bytes {
         return Taken::Wrong;
     }
@@ -59,6 +75,7 @@ pub fn take_table(fd: i32, bytes: usize, slot: &mut [u8]) -> Taken {
 pub fn take_tables(fd: i32, lengths: &[usize], room: &mut [u8]) -> Taken
     requires { ⌜ length (now lengths) ≤ Limits.tables .to ⌝ }
     requires { ⌜ slotsBytes ≤ length (now room) ⌝ }
+    ensures { λ r. ⌜ AreLengths (now (lengths .entry)) r ⌝ }
 {
     let mut i: usize = 0;
     while i < lengths.len() {

@@ -1,6 +1,7 @@
 -- `take_table` meets its contract.
 use mathlib.Core.Path.{sym}
 use lib.Seq.{length-take-le}
+use Rattle.inputs.proofs.Lengths.{is-length}
 use borrow.Author.Needs.{needs}
 use Rattle.inputs.proofs.taking.take_table.Statement.{statement}
 use Rattle.inputs.proofs.taking.take_table.Tie as tie
@@ -24,7 +25,7 @@ same-length : tie.Need-same-length
 same-length c = search needs
 
 returns-2 : tie.Need-returns-2
-returns-2 c = search needs
+returns-2 c = is-length _ (c .before .before .fill .result) (search needs)
 
 fill-requires-2 : tie.Need-fill-requires-2
 fill-requires-2 c κs = search needs
@@ -48,7 +49,7 @@ same-length-2 : tie.Need-same-length-2
 same-length-2 c = search needs
 
 returns-3 : tie.Need-returns-3
-returns-3 c = search needs
+returns-3 c = is-length _ (c .skip .result) (search needs)
 
 same-length-3 : tie.Need-same-length-3
 same-length-3 c = search needs

@@ -1,13 +1,16 @@
 -- `take_tables` meets its contract: the slots stay where they are.
-use mathlib.Core.Path.{_≡_}
-use Prim.Native.Nat.{_-_, _≤_}
-use lib.ListN.{length}
+use mathlib.Core.Path.{_≡_, subst}
+use Prim.Native.Nat.{ℕ, _-_, _≤_, _<_}
+use lib.ListN.{length, getD}
+use Rattle.scanning.specs.Positions.{far}
+use Rattle.inputs.specs.Inputs.{IsLength}
+use Rattle.inputs.proofs.Lengths.{one-more, are-lengths}
 use borrow.Author.Needs.{needs}
 use Rattle.inputs.proofs.taking.take_tables.Statement.{statement}
 use Rattle.inputs.proofs.taking.take_tables.Tie as tie
 
 abbrev Inv-loop : tie.InvT-loop
-Inv-loop fd lengths room₀ i₀ room i = (length room ≡ length room₀) × (i ≤ length lengths)
+Inv-loop fd lengths room₀ i₀ room i = (length room ≡ length room₀) × ((i ≤ length lengths) × ((k : ℕ) → k < i → getD lengths k 0 < far))
 
 abbrev μ-loop : tie.MeasureT-loop
 μ-loop fd lengths room₀ i₀ room i = length lengths - i
@@ -49,7 +52,10 @@ loop-less : tie.Need-loop-less Inv-loop μ-loop
 loop-less c = search needs
 
 loop-again : tie.Need-loop-again Inv-loop μ-loop
-loop-again c = search needs
+loop-again c =
+    let at = c .before .before .before .before .before .before .before .before in
+    let this = subst (IsLength _) (c .enum-told .given .1) (c .before .before .before .before .take-table .ensures) in
+    (search needs, (search needs, one-more (at .before .before .before .args .lengths .now) (at .loop .i) _ (search needs) (at .loop .inv .1 .1) this))
 
 enum-told-2 : tie.Need-enum-told-2 Inv-loop μ-loop
 enum-told-2 c = search needs
@@ -76,7 +82,7 @@ same-length-3 : tie.Need-same-length-3 Inv-loop μ-loop
 same-length-3 c = search needs
 
 returns-3 : tie.Need-returns-3 Inv-loop μ-loop
-returns-3 c = search needs
+returns-3 c = are-lengths _ _ (c .at-end .result) (search needs) (c .before .before .loop .inv .1 .1)
 
 pub take-tables-spec : {M : Type 1} → statement M
 take-tables-spec =
