@@ -65,7 +65,8 @@ fn print_row(label: &[u8], table: &[u8], instant: u64) {
     io::print_decimal(STDOUT_FILENO, instant);
     io::write_all(STDOUT_FILENO, b"\n");
     let r = sheet::row(table, instant, &mut space);
-    print_answer(r.answer, &space);
+    let answer = r.answer;
+    print_answer(answer, &space);
 }
 
 fn print_rows(label: &[u8], table: &[u8]) {
