@@ -7,7 +7,6 @@ use native.Mathlib.Nat.{div-le-self}
 use native.Mathlib.Omega.{arith}
 use lib.Dec.{ltb, eqb}
 use lib.ListN.{length, getD}
-use Rattle.schedule.specs.Limits as Limits
 use Rattle.schedule.specs.Lists.{keep, joined}
 use Rattle.schedule.specs.Table.{Graph, Node}
 use Rattle.schedule.specs.Servers.{Server, noServer, ofNodes, ofGraphs, srv, Box}

@@ -66,8 +66,8 @@ module _ (U : Table) (ok : T (wellFormed U)) (short : hyperperiod U ≤ Limits.h
       (λ b. record {
         reached = λ l. rw (b .1 .how);
         shows = λ l.
-          row-shown X (planOf (memoryOf U)) (offsetsOf (memoryOf U)) (table-laid U ok short) t (w .ledger) (b .1 .released)
-          (omega (arith, stops-in-time X (whole (X .servers)), last-boundary U ok short));
+            row-shown X (planOf (memoryOf U)) (offsetsOf (memoryOf U)) (table-laid U ok short) t (w .ledger) (b .1 .released)
+            (omega (arith, stops-in-time X (whole (X .servers)), last-boundary U ok short));
         end = λ l. absurd (let x : ⊥ = omega (arith, b .0) in x);
         ticks = λ l. absurd (let x : ⊥ = omega (arith, b .0) in x);
         room = room;

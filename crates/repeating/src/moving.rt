@@ -93,13 +93,7 @@ pub fn moved_row(row: Row, periods: [u32; Table::GRAPHS], passed: u32) -> Row
 }
 
 // The row at t, at or past the stop of a walk that settled there, from the row at the matching instant.
-pub fn far_row(
-    there: Row,
-    graph: [Graph; Table::GRAPHS],
-    hyper: u32,
-    stop: u32,
-    t: u32,
-) -> Row
+pub fn far_row(there: Row, graph: [Graph; Table::GRAPHS], hyper: u32, stop: u32, t: u32) -> Row
     requires { ⌜ (there .count ≤ Limits.processors .to) × (1 ≤ hyper) ⌝ }
     ensures { λ r. ⌜ r ≡ Mirror.farRow graph hyper stop t there ⌝ }
 {

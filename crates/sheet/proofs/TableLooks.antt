@@ -4,7 +4,7 @@ use mathlib.Core.List.{List}
 use Prim.Native.Nat.{ℕ, _≤_}
 use native.Mathlib.Omega.{arith}
 use lib.Dec.{T}
-use lib.ListN.{length, replicate, length-replicate}
+use lib.ListN.{length, length-replicate}
 use Rattle.schedule.specs.Limits as Limits
 use Rattle.schedule.specs.Table.{Table, hyperperiod}
 use Rattle.schedule.specs.WellFormed.{wellFormed}
@@ -70,9 +70,9 @@ module _ (U : Table) (ok : T (wellFormed U)) (short : hyperperiod U ≤ Limits.h
       (λ b. record {
         reached = λ l. rw (b .1 .how);
         shows = λ l.
-          rw (b .1 .shows)
-          (row-shown X (planOf (M U ok short)) (offsetsOf (M U ok short)) (b .1 .state) (plan-fits U ok) (offsets-fit U ok) t (b .1 .released)
-          (omega (arith, stops-in-time X (whole (X .servers)), last-boundary U ok short)));
+            rw (b .1 .shows)
+            (row-shown X (planOf (M U ok short)) (offsetsOf (M U ok short)) (b .1 .state) (plan-fits U ok) (offsets-fit U ok) t (b .1 .released)
+            (omega (arith, stops-in-time X (whole (X .servers)), last-boundary U ok short)));
         end = λ l. absurd (let x : ⊥ = omega (arith, b .0) in x);
         ticks = λ l. absurd (let x : ⊥ = omega (arith, b .0) in x);
         room = room;

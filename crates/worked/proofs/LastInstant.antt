@@ -1,6 +1,6 @@
 -- R-10 at the last instant: the 1 and 1 chain, from its bytes to the text of its row. The schedule itself cannot be computed so far; its row
 -- past the stop is that of `farRow` (crate theorems), and that is computed.
-use mathlib.Core.Path.{_≡_, refl, ap, subst, _∙_}
+use mathlib.Core.Path.{_≡_, refl, ap, subst}
 use mathlib.Core.List.{[], _∷_}
 use Prim.Native.Nat.{ℕ}
 use native.Mathlib.Omega.{arith}

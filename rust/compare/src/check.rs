@@ -88,7 +88,9 @@ fn check_plain(
         // A row past the stop is walked twice.
         let (reply, told, walked) = match question {
             Question::Report => (answered.report(), 0, ticks),
-            Question::Row(instant) if instant < ticks => (answered.row(instant), answered.ticks_to(instant), instant),
+            Question::Row(instant) if instant < ticks => {
+                (answered.row(instant), answered.ticks_to(instant), instant)
+            }
             Question::Row(instant) => (answered.row(instant), answered.ticks_to(instant), 2 * ticks),
         };
         for length in lengths(&reply, rng) {
