@@ -6,12 +6,14 @@ mod reporting;
 mod rowing;
 
 pub use exports::PhalandrixAnswer;
+pub use exports::PhalandrixRowAnswer;
 pub use exports::phalandrix_report;
 pub use exports::phalandrix_row;
 pub use exports::told;
+pub use exports::told_row;
 pub use figures::figures_of;
 pub use reporting::put_settled;
 pub use reporting::report;
-pub use rowing::near;
-pub use rowing::put_running;
+pub use rowing::put_row;
 pub use rowing::row;
+pub use rowing::told_with;

@@ -12,6 +12,7 @@
 //! - `state`, `walk`: the state at a boundary and where the walk stops;
 //! - `reply`, `text`: answers, refusals and the lent buffer;
 //! - `question`: the two calls on one table; `batch`: several tables in one call;
+//! - `far`: rows past the stop;
 //! - `salvage`: R-5, from document 02 alone;
 //! - `demand3`: the figure checked by force;
 //! - `overlap`: R-8 checked by force.
@@ -19,6 +20,7 @@
 
 pub mod batch;
 pub mod demand3;
+pub mod far;
 pub mod history;
 pub mod limits;
 pub mod load;
