@@ -10,9 +10,10 @@
  * Platform: x86-64 Linux. `./build-library` makes target/staticlib/libphalandrix.a, which needs
  * memcpy and memset and nothing else.
  *
- * Time: a call walks at most 1,290,000 ticks for a table. The longest walks took 0.01 to 0.06 seconds
- * where they were measured, and some 2 seconds by the plain engine (docs/BENCHMARK.md); that is not
- * proved. Stack: PHALANDRIX_STACK_BYTES and PHALANDRIX_PLAIN_STACK_BYTES, below.
+ * Time: a walk has at most 1,290,000 ticks. The longest walks took 0.01 to 0.06 seconds where they
+ * were measured, and some 2 seconds by the plain engine (docs/BENCHMARK.md); that is not proved. A row
+ * past the stop is walked twice: to the stop, and to the instant that matches. Stack:
+ * PHALANDRIX_STACK_BYTES and PHALANDRIX_PLAIN_STACK_BYTES, below.
  *
  * This file is the home of the version, of the sentences for people, and of the sizes below: ./run
  * and the Rust package read them from here.
@@ -38,6 +39,16 @@ typedef struct phalandrix_answer {
     size_t length;
 } phalandrix_answer;
 
+/* Of a row also the ticks that the rules walk for it from tick 0: the smaller of the instant asked
+ * and the stop; 0 with a refusal. */
+typedef struct phalandrix_row_answer {
+    uint32_t number;
+    uint32_t line;
+    uint32_t column;
+    uint32_t walked;
+    size_t length;
+} phalandrix_row_answer;
+
 /* Every refusal: its number, its name (PHALANDRIX_TOO_LONG and so on) and what it tells people. A
  * line of this list is one line of this file, since ./run and the Rust package read it too. */
 #define PHALANDRIX_REFUSALS(REFUSAL) \
@@ -49,7 +60,7 @@ typedef struct phalandrix_answer {
     REFUSAL(6, NOT_LOADABLE, "the budgets ask for more ticks in a hyperperiod than the processors have") \
     REFUSAL(7, BACKLOG, "a server has more than 16 pending server jobs, or a graph more than 64 unfinished invocations") \
     REFUSAL(8, UNSETTLED, "the schedule does not repeat within `rounds` hyperperiods") \
-    REFUSAL(9, PAST_THE_STOP, "the instant asked is at or past the stop of the walk") \
+    REFUSAL(9, PAST_THE_STOP, "the instant asked is at or past the stop of a walk that does not repeat, or is above 4,000,000,000") \
     REFUSAL(10, SHORT_BUFFER, "the text of the answer is longer than the buffer") \
     REFUSAL(11, WRONG_LENGTHS, "there are not 1 to 16 tables, or their lengths do not add up to the bytes given") \
     REFUSAL(12, CANNOT_KEEP_UP, "a node can never keep up: its budget is above its level times its period")
@@ -146,10 +157,15 @@ phalandrix_answer phalandrix_write(phalandrix_table table, uint8_t *buffer, size
 phalandrix_answer phalandrix_report(const uint8_t *table, size_t table_length,
                                     uint8_t *buffer, size_t buffer_length);
 
+/* The last instant at which there is a row. */
+#define PHALANDRIX_LAST_INSTANT 4000000000u
+
 /* The row at an instant: one line `run=graph,node,server job,invocation` per running server job, in
- * priority order; invocation 0 for one that is not linked; no text for an idle tick. */
-phalandrix_answer phalandrix_row(const uint8_t *table, size_t table_length, uint64_t instant,
-                                 uint8_t *buffer, size_t buffer_length);
+ * priority order; invocation 0 for one that is not linked; no text for an idle tick. Where the
+ * schedule repeats, there is a row at every instant up to PHALANDRIX_LAST_INSTANT; else before the
+ * stop of the walk. */
+phalandrix_row_answer phalandrix_row(const uint8_t *table, size_t table_length, uint64_t instant,
+                                     uint8_t *buffer, size_t buffer_length);
 
 /* The same report and row by the plain engine, which goes tick by tick in the order of the rules: the
  * answer and every byte of the buffer are those of the calls above; this is proved. It takes longer
@@ -157,8 +173,8 @@ phalandrix_answer phalandrix_row(const uint8_t *table, size_t table_length, uint
 phalandrix_answer phalandrix_plain_report(const uint8_t *table, size_t table_length,
                                           uint8_t *buffer, size_t buffer_length);
 
-phalandrix_answer phalandrix_plain_row(const uint8_t *table, size_t table_length, uint64_t instant,
-                                       uint8_t *buffer, size_t buffer_length);
+phalandrix_row_answer phalandrix_plain_row(const uint8_t *table, size_t table_length, uint64_t instant,
+                                           uint8_t *buffer, size_t buffer_length);
 
 /* number, line, column and in_limits 0 and the length of the text; or the number of a refusal, its line
  * and column, and length 0. in_limits is 1 where the refusal is of the limit text, so that its line and

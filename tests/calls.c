@@ -60,10 +60,34 @@ static phalandrix_answer report_in(uint8_t *buffer, const char *bytes, size_t ro
     return phalandrix_report((const uint8_t *)bytes, strlen(bytes), buffer, room);
 }
 
+/* A row's answer, and the ticks walked that it tells. */
+static uint32_t walked;
+
+static phalandrix_answer without_ticks(phalandrix_row_answer r)
+{
+    phalandrix_answer a;
+
+    walked = r.walked;
+    a.number = r.number;
+    a.line = r.line;
+    a.column = r.column;
+    a.length = r.length;
+    return a;
+}
+
 static phalandrix_answer row_in(uint8_t *buffer, uint64_t instant, size_t room)
 {
     memset(buffer, UNTOUCHED, ROOM);
-    return phalandrix_row((const uint8_t *)table, strlen(table), instant, buffer, room);
+    return without_ticks(phalandrix_row((const uint8_t *)table, strlen(table), instant, buffer, room));
+}
+
+/* The ticks that the row before was walked for. */
+static void expect_walked(uint32_t ticks)
+{
+    if (walked != ticks) {
+        printf("ticks walked: %u and not %u\n", (unsigned)walked, (unsigned)ticks);
+        failures++;
+    }
 }
 
 static phalandrix_answer plain_report_in(uint8_t *buffer, const char *bytes, size_t room)
@@ -75,7 +99,7 @@ static phalandrix_answer plain_report_in(uint8_t *buffer, const char *bytes, siz
 static phalandrix_answer plain_row_in(uint8_t *buffer, uint64_t instant, size_t room)
 {
     memset(buffer, UNTOUCHED, ROOM);
-    return phalandrix_plain_row((const uint8_t *)table, strlen(table), instant, buffer, room);
+    return without_ticks(phalandrix_plain_row((const uint8_t *)table, strlen(table), instant, buffer, room));
 }
 
 /* The plain engine: what the first one gives. */
@@ -92,7 +116,15 @@ static void plain_calls(void)
     expect("plain report of a node that cannot keep up", plain_report_in(b, too_slow, ROOM), b,
            PHALANDRIX_CANNOT_KEEP_UP, 0, "");
     expect("plain row at 4", plain_row_in(b, 4, ROOM), b, PHALANDRIX_ANSWERED, 0, row);
-    expect("plain row at the stop", plain_row_in(b, 8, ROOM), b, PHALANDRIX_PAST_THE_STOP, 0, "");
+    expect_walked(4);
+    expect("plain row at the stop", plain_row_in(b, 8, ROOM), b, PHALANDRIX_ANSWERED, 0, "run=1,1,3,3\n");
+    expect_walked(8);
+    expect("plain row at the last instant", plain_row_in(b, PHALANDRIX_LAST_INSTANT, ROOM), b,
+           PHALANDRIX_ANSWERED, 0, "run=1,1,1000000001,1000000001\n");
+    expect_walked(8);
+    expect("plain row past the last instant", plain_row_in(b, PHALANDRIX_LAST_INSTANT + 1, ROOM), b,
+           PHALANDRIX_PAST_THE_STOP, 0, "");
+    expect_walked(0);
     expect("plain row past 2^32", plain_row_in(b, UINT64_MAX, ROOM), b, PHALANDRIX_PAST_THE_STOP, 0, "");
     expect("plain row in no buffer", plain_row_in(b, 4, 0), b, PHALANDRIX_SHORT_BUFFER, 0, "");
     memset(b, UNTOUCHED, ROOM);
@@ -263,9 +295,18 @@ int main(void)
     expect("report of a node that cannot keep up", report_in(b, too_slow, ROOM), b,
            PHALANDRIX_CANNOT_KEEP_UP, 0, "");
     expect("row at 4", row_in(b, 4, ROOM), b, PHALANDRIX_ANSWERED, 0, row);
-    expect("row at the stop", row_in(b, 8, ROOM), b, PHALANDRIX_PAST_THE_STOP, 0, "");
+    expect_walked(4);
+    expect("row at the stop", row_in(b, 8, ROOM), b, PHALANDRIX_ANSWERED, 0, "run=1,1,3,3\n");
+    expect_walked(8);
+    expect("row at the last instant", row_in(b, PHALANDRIX_LAST_INSTANT, ROOM), b,
+           PHALANDRIX_ANSWERED, 0, "run=1,1,1000000001,1000000001\n");
+    expect_walked(8);
+    expect("row past the last instant", row_in(b, PHALANDRIX_LAST_INSTANT + 1, ROOM), b,
+           PHALANDRIX_PAST_THE_STOP, 0, "");
+    expect_walked(0);
     expect("row past 2^32", row_in(b, UINT64_MAX, ROOM), b, PHALANDRIX_PAST_THE_STOP, 0, "");
     expect("row in no buffer", row_in(b, 4, 0), b, PHALANDRIX_SHORT_BUFFER, 0, "");
+    expect_walked(0);
     memset(b, UNTOUCHED, ROOM);
     expect("nothing at all", phalandrix_report(NULL, 0, NULL, 0), b, PHALANDRIX_MISSPELLED, 1, "");
     plain_calls();

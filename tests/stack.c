@@ -1,7 +1,7 @@
-/* The stack of the calls: each table named is reported, its row taken at 0, it is salvaged, reported twice
- * in one call, read and written, held to limits, and reported and its row taken by the plain engine, on a
- * stack that was painted before, and the paint gone is counted. PHALANDRIX_STACK_BYTES must hold every call, and
- * PHALANDRIX_PLAIN_STACK_BYTES the two of the plain engine. */
+/* The stack of the calls: each table named is reported, its row taken at 0 and at the last instant, it is
+ * salvaged, reported twice in one call, read and written, held to limits, and reported and its row taken by the
+ * plain engine, on a stack that was painted before, and the paint gone is counted. PHALANDRIX_STACK_BYTES must hold every
+ * call, and PHALANDRIX_PLAIN_STACK_BYTES the two of the plain engine. */
 #define _GNU_SOURCE
 #include "phalandrix.h"
 
@@ -22,6 +22,10 @@ static ucontext_t here, there;
 static void nothing(void) { }
 static void make_report(void) { phalandrix_report(table, table_length, buffer, sizeof buffer); }
 static void make_row(void) { phalandrix_row(table, table_length, 0, buffer, sizeof buffer); }
+static void make_far_row(void)
+{
+    phalandrix_row(table, table_length, PHALANDRIX_LAST_INSTANT, buffer, sizeof buffer);
+}
 static void make_salvage(void)
 {
     phalandrix_salvage(table, table_length, text, sizeof text, list, sizeof list);
@@ -44,6 +48,10 @@ static void make_reading(void) { reading = phalandrix_read(table, table_length);
 static void make_text(void) { phalandrix_write(reading.table, buffer, sizeof buffer); }
 static void make_plain_report(void) { phalandrix_plain_report(table, table_length, buffer, sizeof buffer); }
 static void make_plain_row(void) { phalandrix_plain_row(table, table_length, 0, buffer, sizeof buffer); }
+static void make_plain_far_row(void)
+{
+    phalandrix_plain_row(table, table_length, PHALANDRIX_LAST_INSTANT, buffer, sizeof buffer);
+}
 
 /* The bytes of a painted stack that are no longer as they were. */
 static size_t used_by(void (*call)(void))
@@ -88,6 +96,7 @@ int main(int count, char **names)
         }
         report = larger(report, used_by(make_report) - without);
         row = larger(row, used_by(make_row) - without);
+        row = larger(row, used_by(make_far_row) - without);
         batch = larger(batch, used_by(make_batch) - without);
         salvage = larger(salvage, used_by(make_salvage) - without);
         reads = larger(reads, used_by(make_reading) - without);
@@ -95,6 +104,7 @@ int main(int count, char **names)
         margins = larger(margins, used_by(make_margins) - without);
         plain_report = larger(plain_report, used_by(make_plain_report) - without);
         plain_row = larger(plain_row, used_by(make_plain_row) - without);
+        plain_row = larger(plain_row, used_by(make_plain_far_row) - without);
     }
     printf("tests/stack: over %d tables report used %zu bytes of stack, row %zu, batch %zu, salvage %zu, "
            "read %zu, write %zu, margin %zu; the header says %d; plain report used %zu, plain row %zu; the header says %d\n",

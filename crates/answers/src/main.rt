@@ -7,6 +7,7 @@ use format::Refusal;
 use libc::STDIN_FILENO;
 use libc::STDOUT_FILENO;
 use rules::Answer;
+use table::Table;
 ghost use Prim.Native.Nat.{_<_, _≤_};
 ghost use lib.ListN.{length};
 
@@ -18,7 +19,7 @@ const READING: u8 = b'@';
 
 const CUTS: u8 = b'$';
 
-// Past the stop of every table whose rows are printed here.
+// Past the stop of every table whose rows are printed here. After them come the last instant and the one past it.
 const INSTANTS: u64 = 10;
 
 fn print_field(name: &[u8], v: u32, end: &[u8]) {
@@ -63,8 +64,9 @@ fn print_row(label: &[u8], table: &[u8], instant: u64) {
     io::write_all(STDOUT_FILENO, b", row at ");
     io::print_decimal(STDOUT_FILENO, instant);
     io::write_all(STDOUT_FILENO, b"\n");
-    let a = sheet::row(table, instant, &mut space);
-    print_answer(a, &space);
+    let r = sheet::row(table, instant, &mut space);
+    let answer = r.answer;
+    print_answer(answer, &space);
 }
 
 fn print_rows(label: &[u8], table: &[u8]) {
@@ -73,6 +75,12 @@ fn print_rows(label: &[u8], table: &[u8]) {
         print_row(label, table, t);
         t += 1;
     }
+}
+
+// At the last instant, and at the one past it.
+fn print_far_rows(label: &[u8], table: &[u8]) {
+    print_row(label, table, Table::INSTANT_TO as u64);
+    print_row(label, table, Table::INSTANT_TO as u64 + 1);
 }
 
 // `answer=0 hyperperiod=` of an admitted table, and else `answer=` with the number, `line=` and `column=`.
@@ -150,6 +158,7 @@ fn print_as(mark: u8, label: &[u8], table: &[u8]) {
         print_report(label, table);
     } else if mark == ROWS {
         print_rows(label, table);
+        print_far_rows(label, table);
     } else if mark == READING {
         print_reading(label, table);
     } else {

@@ -2,10 +2,11 @@
 use crate::reporting::plain_report;
 use crate::rowing::plain_row;
 use sheet::PhalandrixAnswer;
+use sheet::PhalandrixRowAnswer;
 ghost use mathlib.Core.Path.{_≡_};
-ghost use Rattle.rules.specs.Answers.{reportOf, rowOf, callOf};
+ghost use Rattle.rules.specs.Answers.{reportOf, rowOf, rowTicksOf, callOf};
 ghost use Rattle.rules.specs.Demands.{TrueReport};
-ghost use Rattle.sheet.specs.Exports.{Told};
+ghost use Rattle.sheet.specs.Exports.{Told, ToldRow};
 
 #[no_mangle]
 pub extern "C" fn phalandrix_plain_report(table: &[u8], buffer: &mut [u8]) -> PhalandrixAnswer
@@ -20,8 +21,8 @@ pub extern "C" fn phalandrix_plain_row(
     table: &[u8],
     instant: u64,
     buffer: &mut [u8],
-) -> PhalandrixAnswer
-    ensures { λ r. ⌜ Told r (now (buffer .exit)) (callOf (now (buffer .entry)) (rowOf (now (table .entry)) instant)) ⌝ }
+) -> PhalandrixRowAnswer
+    ensures { λ r. ⌜ ToldRow r (now (buffer .exit)) (callOf (now (buffer .entry)) (rowOf (now (table .entry)) instant)) (rowTicksOf (now (table .entry)) instant) ⌝ }
 {
-    sheet::told(plain_row(table, instant, buffer))
+    sheet::told_row(plain_row(table, instant, buffer))
 }

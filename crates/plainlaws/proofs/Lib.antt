@@ -1,5 +1,6 @@
 pub mod Points
 pub mod TableWalks
 pub mod Reports
+pub mod TableLooks
 pub mod RowCalls
 pub mod EnginesAgree

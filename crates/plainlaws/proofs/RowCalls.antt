@@ -1,73 +1,54 @@
--- The row that the plain walk in memory gives is the rules' row of the bytes.
-use mathlib.Core.Path.{_≡_, refl, ap, _∙_}
+-- The row that the plain walks in memory give is what a row call promises of the bytes.
+use mathlib.Core.Path.{_≡_, ap, _∙_}
 use mathlib.Core.List.{List}
-use Prim.Native.Nat.{ℕ, _≤_, _<_, min}
-use native.Mathlib.Omega.{arith}
-use borrow.Author.Tests.{lt-ltb, le-ltb}
-use Rattle.schedule.specs.Table.{Table}
-use Rattle.schedule.specs.Servers.{boxOf, whole}
-use Rattle.schedule.specs.Walk.{Stop, settled, unsettled, backlog, boundary}
-use Rattle.schedule.proofs.Tests.{either-way}
-use Rattle.theorems.proofs.FirstStop.{stops-in-time}
-use Rattle.rules.specs.Admission.{admitted, admissionOf}
-use Rattle.rules.specs.Answers as Rules
-use Rattle.rules.specs.Answers.{Reply, says, refuses, rowText, rowOn}
+use Prim.Native.Nat.{ℕ, _≤_, _<_}
+use Rattle.schedule.specs.Limits as Limits
+use Rattle.schedule.specs.FarRows.{matching}
+use Rattle.rules.specs.declared.RowAnswer.{RowAnswer}
+use Rattle.rules.specs.Admission.{admitted}
+use Rattle.rules.specs.Answers.{refuses}
 use Rattle.format.specs.declared.Refusal.the-variants.{PastTheStop}
-use Rattle.reading.specs.Memory.{memoryOf}
 use Rattle.admission.specs.Admission.{codedAdmission}
 use Rattle.admission.specs.declared.admitting.Admitted.{Admitted}
-use Rattle.window.specs.Entries.{lastKey}
-use Rattle.planning.specs.Plans.{planOf}
-use Rattle.planning.specs.Offsets.{offsetsOf}
-use Rattle.planning.proofs.Boundaries.{last-boundary}
-use Rattle.writing.specs.Row.{runningIn}
+use Rattle.writing.specs.declared.row.Row.{Row}
+use Rattle.repeating.specs.Moving.{farRow}
+use Rattle.looking.specs.declared.End.the-variants.{Reached, Settled, Stopped}
+use Rattle.looking.specs.declared.Look.{Look}
+use Rattle.looking.specs.Looking.{saysRow}
+use Rattle.sheet.specs.Rows.{Answered, RowAt}
 use Rattle.sheet.proofs.Admissions.{Passes}
-use Rattle.sheet.proofs.RowCalls.{rules-row}
-use Rattle.ledger.specs.Showing.{rowOf}
-use Rattle.ledger.specs.declared.Walk.{Walk}
-use Rattle.ledgerlaws.proofs.Ends.{howOf}
-use Rattle.ledgerlaws.proofs.Walked.{stop, AtStop, BeforeStop}
-use Rattle.plainlaws.specs.Walks.{walkOfTable}
-use Rattle.plainlaws.specs.Rows.{rowBy, rowReply}
-use Rattle.ledgerlaws.proofs.Shown.{row-shown}
-use Rattle.plainlaws.proofs.TableWalks.{table-laid, table-walked}
+use Rattle.sheet.proofs.RowCalls.{Promised, promised}
+use Rattle.sheet.proofs.RowTold.{near-told, far-told, stopped-told, above-told}
+use Rattle.plainlaws.specs.Rows.{lookOf}
 use Rattle.plainlaws.proofs.Reports.{ok, short}
+use Rattle.plainlaws.proofs.TableLooks.{table-looked}
 
-stopped-row : (s : Stop) (row : Reply) → rowBy (howOf s) row ≡ refuses PastTheStop
-stopped-row (settled k) row = refl
-stopped-row unsettled row = refl
-stopped-row backlog row = refl
+module _ (bytes : List ℕ) (a : Admitted) (p : Passes bytes a) where
+  passed-row : (t : ℕ) (before after : List ℕ) (x : RowAnswer) → RowAt (lookOf a) (a .table .graph) (a .hyperperiod) t before after x
+      → Promised bytes t before after x
+  passed-row t before after x h =
+      let U = p .table in
+      let is = p .is-admitted in
+      let A = codedAdmission (admitted U) in
+      let g : RowAt (lookOf A) (A .table .graph) (A .hyperperiod) t before after x = rw (p .is) at h in
+      promised bytes U is t (lookOf A) (table-looked U (ok bytes U is) (short bytes U is)) before after x g
 
-module _ (bytes : List ℕ) (U : Table) (e : admissionOf bytes ≡ admitted U) (instant : ℕ) where
-  abbrev asked : ℕ
-  asked = min instant lastKey
+  pub passed-above : (t : ℕ) (before after : List ℕ) (x : RowAnswer) → Limits.instant .to < t → Answered (refuses PastTheStop) 0 before after x
+      → Promised bytes t before after x
+  passed-above t before after x l h = passed-row t before after x (above-told (lookOf a) (a .table .graph) (a .hyperperiod) t before after x l h)
 
-  abbrev w : Walk
-  w = walkOfTable (codedAdmission (admitted U)) asked
+  -- by how the walk to t ended
+  module _ (t : ℕ) (near : t ≤ Limits.instant .to) (l : Look) (e : l ≡ lookOf a t) (before after : List ℕ) (x : RowAnswer) where
+    pub passed-near : l .end ≡ Reached → Answered (saysRow (l .row)) t before after x → Promised bytes t before after x
+    passed-near h s = passed-row t before after x (near-told (lookOf a) (a .table .graph) (a .hyperperiod) t near l e before after x h s)
 
-  -- the walk stopped before
-  past : (stop (boxOf U)) .ticks ≤ asked → AtStop (boxOf U) w → rowReply (memoryOf U) w ≡ Rules.rowOf bytes instant
-  unfolding rowOn
-  past l s =
-      rw (s .how, rules-row bytes U e instant, le-ltb instant (stop (boxOf U) .ticks) (omega arith))
-      (stopped-row (stop (boxOf U) .how) (says (rowText (runningIn (rowOf (planOf (memoryOf U)) (offsetsOf (memoryOf U)) (w .ledger))))))
+    pub passed-far : l .end ≡ Settled → (there : Look) → there ≡ lookOf a (matching (a .hyperperiod) (l .ticks) t) → (far : Row)
+        → far ≡ farRow (a .table .graph) (a .hyperperiod) (l .ticks) t (there .row) → Answered (saysRow far) (l .ticks) before after x
+        → Promised bytes t before after x
+    passed-far h there r far f s =
+        passed-row t before after x
+        (far-told (lookOf a) (a .table .graph) (a .hyperperiod) t near l e before after x h far
+        (f ∙ ap (λ (y : Look). farRow (a .table .graph) (a .hyperperiod) (l .ticks) t (y .row)) r) s)
 
-  -- the walk came to the instant asked
-  there : asked < (stop (boxOf U)) .ticks → BeforeStop (boxOf U) asked w → rowReply (memoryOf U) w ≡ Rules.rowOf bytes instant
-  unfolding rowOn boundary
-  there l b =
-      let in-time = stops-in-time (boxOf U) (whole (boxOf U .servers)) in
-      let last = last-boundary U (ok bytes U e) (short bytes U e) in
-      let same : asked ≡ instant = omega arith in
-      let shown =
-      row-shown (boxOf U) (planOf (memoryOf U)) (offsetsOf (memoryOf U)) (table-laid U (ok bytes U e) (short bytes U e)) asked (w .ledger) (b .released) (omega arith) in
-      rw (b .how, rules-row bytes U e instant, lt-ltb instant (stop (boxOf U) .ticks) (omega arith), shown, same)
-
-  pub row-same : rowReply (memoryOf U) w ≡ Rules.rowOf bytes instant
-  row-same = either-way (table-walked U (ok bytes U e) (short bytes U e) asked) (λ s. past (s .0) (s .1)) (λ b. there (b .0) (b .1))
-
-pub passed-row : (bytes : List ℕ) (r : Admitted) (p : Passes bytes r) (instant : ℕ) (w : Walk) → w ≡ walkOfTable r (min instant lastKey)
-    → rowReply (r .table) w ≡ Rules.rowOf bytes instant
-passed-row bytes r p instant w e =
-    let q : w ≡ walkOfTable (codedAdmission (admitted (p .table))) (min instant lastKey) = e ∙ ap (λ (x : Admitted). walkOfTable x (min instant lastKey)) (p .is) in
-    rw (q, p .is) (row-same bytes (p .table) (p .is-admitted) instant)
+    pub passed-stopped : l .end ≡ Stopped → Answered (refuses PastTheStop) 0 before after x → Promised bytes t before after x
+    passed-stopped h s = passed-row t before after x (stopped-told (lookOf a) (a .table .graph) (a .hyperperiod) t near l e before after x h s)

@@ -1,21 +1,26 @@
--- The row of a walk in memory by the plain engine: what `row_walk` answers. For the proof, not for belief.
-use Rattle.format.specs.declared.Refusal.the-variants.{PastTheStop}
-use Rattle.rules.specs.Answers.{Reply, says, refuses, rowText}
+-- What a walk in memory by the plain engine shows: what `looked` gives. For the proof, not for belief.
+use Prim.Native.Nat.{ℕ}
+use Rattle.admission.specs.declared.admitting.Admitted.{Admitted}
 use Rattle.table.specs.declared.Table.{Table}
 use Rattle.planning.specs.Plans.{planOf}
 use Rattle.planning.specs.Offsets.{offsetsOf}
-use Rattle.writing.specs.Row.{runningIn}
+use Rattle.looking.specs.declared.End.{End}
+use Rattle.looking.specs.declared.End.the-variants as End
+use Rattle.looking.specs.declared.Look.{Look}
 use Rattle.ledger.specs.Showing.{rowOf}
 use Rattle.ledger.specs.declared.How.{How}
-use Rattle.ledger.specs.declared.How.the-variants.{Settled, Unsettled, Backlog, Reached}
+use Rattle.ledger.specs.declared.How.the-variants as How
 use Rattle.ledger.specs.declared.Walk.{Walk}
+use Rattle.plainlaws.specs.Walks.{walkOfTable}
 
--- only a walk that came to the instant asked has a row
-abbrev pub rowBy : How → Reply → Reply
-rowBy (Settled k) row = refuses PastTheStop
-rowBy Unsettled row = refuses PastTheStop
-rowBy Backlog row = refuses PastTheStop
-rowBy Reached row = row
+abbrev pub endBy : How → End
+endBy (How.Settled k) = End.Settled
+endBy How.Unsettled = End.Stopped
+endBy How.Backlog = End.Stopped
+endBy How.Reached = End.Reached
 
-abbrev pub rowReply : Table → Walk → Reply
-rowReply table w = rowBy (w .how) (says (rowText (runningIn (rowOf (planOf table) (offsetsOf table) (w .ledger)))))
+abbrev pub lookAt : Table → Walk → Look
+lookAt table w = record { end = endBy (w .how); ticks = w .ticks; row = rowOf (planOf table) (offsetsOf table) (w .ledger) }
+
+unfoldable pub lookOf : Admitted → ℕ → Look
+lookOf a asked = lookAt (a .table) (walkOfTable a asked)

@@ -6,7 +6,7 @@ ghost use mathlib.Core.List.{List};
 ghost use Prim.Native.Nat.{ℕ, _≤_, _<_};
 ghost use lib.ListN.{length};
 ghost use Rattle.schedule.specs.Limits.{tableBytes};
-ghost use Rattle.rules.specs.Answers.{printed, callOf};
+ghost use Rattle.rules.specs.Answers.{printed, rowOf, callOf};
 ghost use Rattle.writer.specs.Lengths.{longestWritten};
 ghost use Rattle.writing.specs.Lengths.{longestRow};
 ghost use Rattle.writing.specs.Written.{Written};
@@ -14,15 +14,32 @@ ghost use Rattle.sheet.specs.Calls.{called};
 ghost use Rattle.printing.specs.Rooms.{Holds};
 ghost use Rattle.printing.specs.Questions.{replyOf, longestAnswer};
 
+// The program tells no ticks walked, by neither engine.
+pub fn asked_row(table: &[u8], instant: u64, text: &mut [u8]) -> Answer
+    ensures { λ r. ⌜ called r (now (text .exit)) ≡ callOf (now (text .entry)) (rowOf (now (table .entry)) instant) ⌝ }
+{
+    let r = sheet::row(table, instant, text);
+    let answer = r.answer;
+    answer
+}
+
+pub fn asked_plain_row(table: &[u8], instant: u64, text: &mut [u8]) -> Answer
+    ensures { λ r. ⌜ called r (now (text .exit)) ≡ callOf (now (text .entry)) (rowOf (now (table .entry)) instant) ⌝ }
+{
+    let r = plain::plain_row(table, instant, text);
+    let answer = r.answer;
+    answer
+}
+
 pub fn asked(q: Question, table: &[u8], text: &mut [u8]) -> Answer
     ensures { λ r. ⌜ called r (now (text .exit)) ≡ callOf (now (text .entry)) (replyOf q (now (table .entry))) ⌝ }
 {
     match q {
         Question::Report => sheet::report(table, text),
-        Question::Row(instant) => sheet::row(table, instant as u64, text),
+        Question::Row(instant) => asked_row(table, instant as u64, text),
         Question::Rewrite => editing::rewrite(table, text),
         Question::PlainReport => plain::plain_report(table, text),
-        Question::PlainRow(instant) => plain::plain_row(table, instant as u64, text),
+        Question::PlainRow(instant) => asked_plain_row(table, instant as u64, text),
     }
 }
 

@@ -6,10 +6,10 @@ use Rattle.schedule.specs.Walk.{Walked, wholeWalk}
 use Rattle.schedule.proofs.Walking.{onePassWalk, same-walk}
 use Rattle.format.specs.declared.Refusal.the-variants.{CannotKeepUp}
 use Rattle.format.specs.Bytes.{bytes}
-use Rattle.rules.specs.Admission.{refused, admit, admissionOf}
-use Rattle.rules.specs.Answers.{reportOn, printed, callOf}
+use Rattle.rules.specs.Admission.{Admission, refused, admit, admissionOf}
+use Rattle.rules.specs.Answers.{reportOn, printed, callOf, hasRow, rowAdmitted, ticksAdmitted, ticksTold}
 use Rattle.rules.specs.AnswerNumbers.{answerNumber, answerLineNumber, answerColumn, answerLength}
-use Rattle.rules.specs.Cases.{AdmissionCase, admissions, Overtaken, overtakes, overtaken, replyTo, PrintCase, printCases, StopCase, stopCases, CallCase, callCases, lent, AnswerCase, told, answerCases}
+use Rattle.rules.specs.Cases.{AdmissionCase, admissions, Overtaken, overtakes, overtaken, replyTo, PrintCase, printCases, StopCase, stopCases, CallCase, callCases, lent, AnswerCase, told, answerCases, TicksCase, ticksCases, HasCase, has, hasCases}
 use Rattle.rules.proofs.Computing.{answering}
 
 pub admissions-hold : map (λ (c : AdmissionCase). admit (c .table)) admissions ≡ map (λ (c : AdmissionCase). c .gives (c .table)) admissions
@@ -35,6 +35,11 @@ Called walk =
     map (λ (c : CallCase). callOf (lent (c .room)) (replyTo walk (c .asked) (admissionOf (bytes (c .table))))) callCases
     ≡ map (λ (c : CallCase). c .gives) callCases
 
+abbrev Ticks : (Box → Walked) → Type 0
+Ticks walk =
+    map (λ (c : TicksCase). let a : Admission = admissionOf (bytes (c .table)) in ticksTold ((callOf (lent (c .room)) (rowAdmitted walk (c .at) a)) .answer) (ticksAdmitted walk (c .at) a)) ticksCases
+    ≡ map (λ (c : TicksCase). c .ticks) ticksCases
+
 stopping-computed : Stopping onePassWalk
 unfolding answering overtaken
 stopping-computed = refl
@@ -47,6 +52,10 @@ called-computed : Called onePassWalk
 unfolding answering callCases
 called-computed = refl
 
+ticks-computed : Ticks onePassWalk
+unfolding answering ticksCases
+ticks-computed = refl
+
 pub overtaken-stop : Stopping wholeWalk
 overtaken-stop = subst Stopping same-walk stopping-computed
 
@@ -56,6 +65,9 @@ answers-hold = subst Printed same-walk printed-computed
 pub calls-hold : Called wholeWalk
 calls-hold = subst Called same-walk called-computed
 
+pub ticks-hold : Ticks wholeWalk
+ticks-hold = subst Ticks same-walk ticks-computed
+
 pub stops-reported : map (λ (c : StopCase). printed (reportOn (c .how) 8 (6 ∷ []))) stopCases ≡ map (λ (c : StopCase). bytes (c .prints)) stopCases
 unfolding answering stopCases
 stops-reported = refl
@@ -63,3 +75,7 @@ stops-reported = refl
 pub numbers-hold : map (λ (c : AnswerCase). told (c .answer) (answerNumber (c .answer)) (answerLineNumber (c .answer)) (answerColumn (c .answer)) (answerLength (c .answer))) answerCases ≡ answerCases
 unfolding answerCases
 numbers-hold = refl
+
+pub rows-there : map (λ (c : HasCase). has (c .how) (c .ticks) (c .at) (hasRow (c .how) (c .ticks) (c .at))) hasCases ≡ hasCases
+unfolding answering hasCases
+rows-there = refl

@@ -2,9 +2,9 @@
 use Rattle.schedule.proofs.Walking.{walking}
 use Rattle.format.proofs.Computing.{reading}
 use Rattle.rules.specs.Admission.{admit, admissionOf}
-use Rattle.rules.specs.Answers.{answerLine, responseLines, reportText, rowText, printed, rowOn, fitted, left, callOf}
+use Rattle.rules.specs.Answers.{answerLine, responseLines, reportText, rowText, printed, hasRow, rowOn, fitted, left, callOf}
 
 -- opened by name where a test is computed
 unfoldable pub answering : Unit {0}
-unfolding walking reading admit admissionOf answerLine responseLines reportText rowText printed rowOn fitted left callOf
+unfolding walking reading admit admissionOf answerLine responseLines reportText rowText printed hasRow rowOn fitted left callOf
 answering = tt

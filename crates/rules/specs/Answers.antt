@@ -1,7 +1,7 @@
 -- The text of an answer, and what a call returns and leaves in the buffer it is lent.
-use mathlib.Core.Bool.{cond}
+use mathlib.Core.Bool.{Bool, true, false, _&&_, _||_, cond}
 use mathlib.Core.List.{List, [], _∷_, _++_}
-use Prim.Native.Nat.{ℕ}
+use Prim.Native.Nat.{ℕ, min}
 use Prim.Native.String.{String}
 use lib.Dec.{leb, ltb}
 use lib.ListN.{length, drop}
@@ -11,6 +11,7 @@ use Rattle.format.specs.declared.Refusal.{Refusal}
 use Rattle.format.specs.declared.Refusal.the-variants.{Backlog, Unsettled, PastTheStop, ShortBuffer}
 use Rattle.format.specs.Bytes.{bytes, lineFeed, equals, comma, decimal}
 use Rattle.format.specs.Refusals.{numberOf, lineOf, columnOf}
+use Rattle.schedule.specs.Limits as Limits
 use Rattle.schedule.specs.Servers.{Box, boxOf, whole}
 use Rattle.schedule.specs.Walk.{Stop, settled, unsettled, backlog, Walked, Running, wholeWalk, rowAt}
 use Rattle.rules.specs.Admission.{Admission, admitted, refused, admissionOf}
@@ -48,11 +49,23 @@ reportOn (settled k) ticks figures = says (reportText k ticks figures)
 reportOn unsettled ticks figures = refuses Unsettled
 reportOn backlog ticks figures = refuses Backlog
 
--- the row at t of a box whose walk stopped after `ticks`: refusal 9. The walk may have stopped in any of the three ways
-unfoldable pub rowOn : Box → ℕ → ℕ → Reply
-rowOn X ticks t =
-    let row : Reply = says (rowText (rowAt X (whole (X .servers)) t)) in
-    cond (ltb t ticks) row (refuses PastTheStop)
+abbrev pub isSettled : Stop → Bool
+isSettled (settled k) = true
+isSettled unsettled = false
+isSettled backlog = false
+
+-- whether there is a row at t of a walk that stopped so after `ticks` (R-10): up to the limit of an instant, of a settled walk at each, of
+-- another before its stop
+unfoldable pub hasRow : Stop → ℕ → ℕ → Bool
+hasRow how ticks t = leb t (Limits.instant .to) && (isSettled how || ltb t ticks)
+
+-- the schedule's row at t, or refusal 9
+abbrev pub rowIf : Bool → Box → ℕ → Reply
+rowIf true X t = says (rowText (rowAt X (whole (X .servers)) t))
+rowIf false X t = refuses PastTheStop
+
+unfoldable pub rowOn : Box → Stop → ℕ → ℕ → Reply
+rowOn X how ticks t = rowIf (hasRow how ticks t) X t
 
 -- both calls, by the walk of a box; the table's own refusals come first
 abbrev pub reportAdmitted : (Box → Walked) → Admission → Reply
@@ -61,7 +74,12 @@ reportAdmitted walk (admitted T) = let w : Walked = walk (boxOf T) in reportOn (
 
 abbrev pub rowAdmitted : (Box → Walked) → ℕ → Admission → Reply
 rowAdmitted walk t (refused r) = refuses r
-rowAdmitted walk t (admitted T) = rowOn (boxOf T) ((walk (boxOf T)) .ticks) t
+rowAdmitted walk t (admitted T) = let w : Walked = walk (boxOf T) in rowOn (boxOf T) (w .how) (w .ticks) t
+
+-- the ticks that the rules walk from tick 0 for the row at t (R-10): the smaller of t and the stop
+abbrev pub ticksAdmitted : (Box → Walked) → ℕ → Admission → ℕ
+ticksAdmitted walk t (refused r) = 0
+ticksAdmitted walk t (admitted T) = min t ((walk (boxOf T)) .ticks)
 
 -- the report of a table, and its row at t
 unfoldable pub reportOf : List ℕ → Reply
@@ -69,6 +87,14 @@ reportOf s = reportAdmitted wholeWalk (admissionOf s)
 
 unfoldable pub rowOf : List ℕ → ℕ → Reply
 rowOf s t = rowAdmitted wholeWalk t (admissionOf s)
+
+unfoldable pub rowTicksOf : List ℕ → ℕ → ℕ
+rowTicksOf s t = ticksAdmitted wholeWalk t (admissionOf s)
+
+-- they are told beside a text; with a refusal 0 is
+abbrev pub ticksTold : Answer → ℕ → ℕ
+ticksTold (Text n) ticks = ticks
+ticksTold (Refused r) ticks = 0
 
 -- refusal 10, for a lent buffer of length n
 unfoldable pub fitted : ℕ → Reply → Reply

@@ -1,4 +1,5 @@
 -- Worked cases of admission, of the order of the refusals, of answers and of calls with a lent buffer. They are computed in proofs/Cases.antt.
+use mathlib.Core.Bool.{Bool, true, false}
 use mathlib.Core.List.{List, [], _∷_, _++_}
 use Prim.Native.Nat.{ℕ}
 use Prim.Native.String.{String}
@@ -128,13 +129,20 @@ printCases =
     ∷ prints chain-1-1 (row 5) "run=1,2,2,1\n"
     ∷ prints chain-1-1 (row 2) ""
     ∷ prints chain-4-4 (row 4) "run=1,1,2,2\nrun=1,2,2,1\n"
-    -- at or past the stop
+    -- at or past the stop of a settled walk: round 2 again, numbers moved on
     ∷ prints chain-1-1 (row 7) ""
-    ∷ prints chain-1-1 (row 8) "answer=9\nline=0\ncolumn=0\n"
-    ∷ prints chain-1-1 (row 9) "answer=9\nline=0\ncolumn=0\n"
-    -- before the stop also where the report gives 7 or 8
+    ∷ prints chain-1-1 (row 8) "run=1,1,3,3\n"
+    ∷ prints chain-1-1 (row 9) "run=1,2,3,2\n"
+    ∷ prints chain-1-1 (row 15) ""
+    ∷ prints chain-1-1 (row 16) "run=1,1,5,5\n"
+    -- above the limit of an instant. (At it: crate worked)
+    ∷ prints chain-1-1 (row 4000000001) "answer=9\nline=0\ncolumn=0\n"
+    ∷ prints chain-1-1-in-1-round (row 4000000001) "answer=9\nline=0\ncolumn=0\n"
+    -- before the stop also where the report gives 7 or 8, and not at it
     ∷ prints chain-1-1-in-1-round (row 0) "run=1,1,1,1\n"
+    ∷ prints chain-1-1-in-1-round (row 3) ""
     ∷ prints chain-1-1-in-1-round (row 4) "answer=9\nline=0\ncolumn=0\n"
+    ∷ prints chain-1-1-in-1-round (row 4000000000) "answer=9\nline=0\ncolumn=0\n"
     -- the table's own refusals come first, also for rows that the walk would show, and before 9
     ∷ prints chain-3-2 (row 9) "answer=6\nline=0\ncolumn=0\n"
     ∷ prints eight-every-1-on-1 (row 0) "answer=6\nline=0\ncolumn=0\n"
@@ -197,9 +205,11 @@ callCases =
     ∷ leaves eight-every-1 report 0 CannotKeepUp
     ∷ leaves eight-every-1 (row 0) 0 CannotKeepUp
     ∷ leaves chain-1-1-in-1-round report 0 Unsettled
-    ∷ leaves chain-1-1 (row 8) 0 PastTheStop
+    ∷ leaves chain-1-1-in-1-round (row 4) 0 PastTheStop
     ∷ leaves chain-1-1-in-1-round report 50 Unsettled
-    ∷ leaves chain-1-1 (row 8) 50 PastTheStop
+    ∷ leaves chain-1-1-in-1-round (row 4) 50 PastTheStop
+    ∷ leaves chain-1-1 (row 8) 11 ShortBuffer
+    ∷ writes chain-1-1 (row 8) "run=1,1,3,3\n" 0
     ∷ []
 
 -- an answer's number, line, column and length
@@ -220,4 +230,52 @@ answerCases =
     ∷ told (Refused (AgainstPredecessorRules 12 9)) 4 12 9 0
     ∷ told (Refused Backlog) 7 0 0 0
     ∷ told (Refused CannotKeepUp) 12 0 0 0
+    ∷ []
+
+-- the ticks told of a row in a lent buffer: the smaller of the instant and the stop, and 0 on a refusal
+pub record TicksCase : Type 0 where
+  pub table : String
+  pub at : ℕ
+  pub room : ℕ
+  pub ticks : ℕ
+
+abbrev pub walks : String → ℕ → ℕ → ℕ → TicksCase
+walks T t n k = record { table = T; at = t; room = n; ticks = k }
+
+unfoldable pub ticksCases : List TicksCase
+ticksCases =
+    walks chain-1-1 0 12 0
+    ∷ walks chain-1-1 2 12 2
+    ∷ walks chain-1-1 7 12 7
+    ∷ walks chain-1-1 8 12 8
+    ∷ walks chain-1-1 9 12 8
+    ∷ walks chain-1-1 9 11 0
+    ∷ walks chain-1-1 4000000001 12 0
+    ∷ walks chain-1-1-in-1-round 3 0 3
+    ∷ walks chain-1-1-in-1-round 4 12 0
+    ∷ walks chain-3-2 1 12 0
+    ∷ walks "" 1 12 0
+    ∷ []
+
+-- whether there is a row: how a walk stopped, after how many ticks, and the instant asked
+pub record HasCase : Type 0 where
+  pub how : Stop
+  pub ticks : ℕ
+  pub at : ℕ
+  pub has : Bool
+
+abbrev pub has : Stop → ℕ → ℕ → Bool → HasCase
+has how ticks t b = record { how = how; ticks = ticks; at = t; has = b }
+
+unfoldable pub hasCases : List HasCase
+hasCases =
+    has (settled 2) 8 7 true
+    ∷ has (settled 2) 8 8 true
+    ∷ has (settled 2) 8 4000000000 true
+    ∷ has (settled 2) 8 4000000001 false
+    ∷ has unsettled 8 7 true
+    ∷ has unsettled 8 8 false
+    ∷ has unsettled 8 4000000000 false
+    ∷ has backlog 8 7 true
+    ∷ has backlog 8 8 false
     ∷ []

@@ -6,3 +6,9 @@ pub enum Answer {
     Text(usize),
     Refused(Refusal),
 }
+
+// What a row call answers: with a text, the ticks that the rules walk for it from tick 0; with a refusal 0.
+pub struct RowAnswer {
+    pub answer: Answer,
+    pub walked: u32,
+}

@@ -8,3 +8,4 @@ pub mod CasesInOnePass
 pub mod OneFigure
 pub mod OverlapCases
 pub mod LevelOne
+pub mod FarRowCases

@@ -9,7 +9,9 @@ pub mod Walk
 pub mod WellFormed
 pub mod LeastTrue
 pub mod Overlap
+pub mod FarRows
 pub mod Described
 pub mod TableCases
 pub mod WalkCases
 pub mod OverlapCases
+pub mod FarRowCases

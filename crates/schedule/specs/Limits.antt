@@ -41,6 +41,10 @@ level = record { from = 1; to = 4 }
 abbrev pub hyperperiod : Range
 hyperperiod = record { from = 1; to = 20000 }
 
+-- an instant that a row is asked for (R-10)
+abbrev pub instant : Range
+instant = record { from = 0; to = 4000000000 }
+
 -- document 02, R-12: the bytes of a limit text, and the age limit of a graph
 abbrev pub limitBytes : Range
 limitBytes = record { from = 0; to = 4096 }

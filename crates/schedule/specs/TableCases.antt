@@ -39,6 +39,7 @@ limits =
     ∷ sides Limits.allNodes (1 ∷ 32 ∷ []) (0 ∷ 33 ∷ [])
     ∷ sides Limits.level (1 ∷ 4 ∷ []) (0 ∷ 5 ∷ [])
     ∷ sides Limits.hyperperiod (1 ∷ 20000 ∷ []) (0 ∷ 20001 ∷ [])
+    ∷ sides Limits.instant (0 ∷ 4000000000 ∷ []) (4000000001 ∷ [])
     ∷ sides Limits.predecessor (1 ∷ 15 ∷ []) (0 ∷ 16 ∷ [])
     ∷ sides Limits.tables (1 ∷ 16 ∷ []) (0 ∷ 17 ∷ [])
     ∷ []

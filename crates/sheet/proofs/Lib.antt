@@ -2,11 +2,12 @@ pub mod CallLaws
 pub mod Admissions
 pub mod TableWalks
 pub mod Reports
+pub mod TableLooks
 pub mod RowCalls
+pub mod RowTold
 pub mod Planning
 pub mod ExportLaws
 pub mod TextLengths
-pub mod RowNumbers
 pub mod Room
 pub mod RowRoom
 pub mod FarRows

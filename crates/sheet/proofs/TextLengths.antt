@@ -10,6 +10,7 @@ use Rattle.schedule.specs.Walk.{Running}
 use Rattle.rules.specs.Answers.{answerLine, responseLines, reportText, rowText}
 use Rattle.writing.specs.Lengths.{mostDigits, longestLine, longestRun, longestReport}
 use Rattle.writing.proofs.Counting.{digits-most}
+use Rattle.looking.proofs.RowNumbers.{Each, Entry, each-under}
 
 abbrev pub Small : ℕ → Type 0
 Small v = v < 10 ^ mostDigits
@@ -52,16 +53,23 @@ report-short k t fs a b few h =
       responses-short fs h,
     )
 
--- each entry of a list
-abbrev pub Each : {A : Type 0} → (A → Type 0) → List A → Type 0
-Each P [] = Unit {0}
-Each P (x ∷ xs) = P x × Each P xs
-
 pub record SmallRun (x : Running) : Type 0 where
   pub graph : Small (x .graph)
   pub node : Small (x .node)
   pub serverJob : Small (x .serverJob)
   pub invocation : Small (x .invocation)
+
+-- up to the limit of an instant every number has few digits
+pub small-row : (t : ℕ) → t ≤ Limits.instant .to → (l : List Running) → Each (Entry (Limits.graphs .to) (Limits.allNodes .to) t) l → Each SmallRun l
+small-row t near l e =
+    each-under (Entry (Limits.graphs .to) (Limits.allNodes .to) t) SmallRun
+    (λ x n. record {
+      graph = omega (arith, n .graph);
+      node = omega (arith, n .node);
+      serverJob = omega (arith, n .serverJob);
+      invocation = omega (arith, n .invocation);
+    })
+    l e
 
 pub row-short : (xs : List Running) → Each SmallRun xs → length (rowText xs) ≤ length xs * longestRun
 unfolding rowText

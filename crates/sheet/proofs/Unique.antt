@@ -3,10 +3,13 @@ use mathlib.Core.Path.{_≡_, sym, ap, _∙_}
 use mathlib.Core.List.{List}
 use Prim.Native.Nat.{ℕ}
 use Rattle.rules.specs.declared.Answer.{Answer}
-use Rattle.rules.specs.Answers.{Call, reportOf, rowOf, callOf}
+use Rattle.rules.specs.declared.RowAnswer.{RowAnswer}
+use Rattle.rules.specs.Answers.{Call, reportOf, rowOf, rowTicksOf, ticksTold, callOf}
 use Rattle.sheet.specs.declared.exports.PhalandrixAnswer.{PhalandrixAnswer}
+use Rattle.sheet.specs.declared.exports.PhalandrixRowAnswer.{PhalandrixRowAnswer}
 use Rattle.sheet.specs.Calls.{called}
-use Rattle.sheet.specs.Exports.{Told}
+use Rattle.sheet.specs.Exports.{Told, ToldRow}
+use Rattle.sheet.proofs.RowCalls.{Promised}
 
 module _ (call : Call) where
   pub one-result : (a b : Answer) (s t : List ℕ) → called a s ≡ call → called b t ≡ call → (a ≡ b) × (s ≡ t)
@@ -23,6 +26,14 @@ pub one-report : (table buffer : List ℕ) (a b : Answer) (s t : List ℕ)
 one-report table buffer = one-result (callOf buffer (reportOf table))
 
 -- and of `row`, at the same instant
-pub one-row : (table : List ℕ) (instant : ℕ) (buffer : List ℕ) (a b : Answer) (s t : List ℕ)
-    → called a s ≡ callOf buffer (rowOf table instant) → called b t ≡ callOf buffer (rowOf table instant) → (a ≡ b) × (s ≡ t)
-one-row table instant buffer = one-result (callOf buffer (rowOf table instant))
+pub one-row : (table : List ℕ) (instant : ℕ) (buffer : List ℕ) (a b : RowAnswer) (s t : List ℕ) → Promised table instant buffer s a
+    → Promised table instant buffer t b → (a ≡ b) × (s ≡ t)
+one-row table instant buffer a b s t (e, v) (f, w) =
+    let (answer, bytes) = one-result (callOf buffer (rowOf table instant)) (a .answer) (b .answer) s t e f in
+    let walked : a .walked ≡ b .walked = v ∙ ap (λ (x : Answer). ticksTold x (rowTicksOf table instant)) answer ∙ sym w in
+    let same : _≡_ {A = RowAnswer} (record { answer = a .answer; walked = a .walked }) (record { answer = b .answer; walked = b .walked }) = rw (answer, walked) in
+    (same, bytes)
+
+-- and for C
+pub one-told-row : (call : Call) (ticks : ℕ) (a b : PhalandrixRowAnswer) (s t : List ℕ) → ToldRow a s call ticks → ToldRow b t call ticks → (a ≡ b) × (s ≡ t)
+one-told-row call ticks a b s t e f = (e .answer ∙ sym (f .answer), e .bytes ∙ sym (f .bytes))

@@ -2,10 +2,11 @@
 use crate::reporting::report;
 use crate::rowing::row;
 use rules::Answer;
+use rules::RowAnswer;
 ghost use mathlib.Core.Path.{_≡_};
-ghost use Rattle.rules.specs.Answers.{reportOf, rowOf, callOf};
+ghost use Rattle.rules.specs.Answers.{reportOf, rowOf, rowTicksOf, callOf};
 ghost use Rattle.rules.specs.Demands.{TrueReport};
-ghost use Rattle.sheet.specs.Exports.{toldOf, Told};
+ghost use Rattle.sheet.specs.Exports.{toldOf, Told, toldRow, ToldRow};
 
 // Document 01's number and line, document 02's column, and the text's length: 0, 0 and 0 with the length; or a refusal's own with length 0.
 #[repr(C)]
@@ -13,6 +14,16 @@ pub struct PhalandrixAnswer {
     pub number: u32,
     pub line: u32,
     pub column: u32,
+    pub length: usize,
+}
+
+// The same of a row, with the ticks walked for it: 0 with a refusal.
+#[repr(C)]
+pub struct PhalandrixRowAnswer {
+    pub number: u32,
+    pub line: u32,
+    pub column: u32,
+    pub walked: u32,
     pub length: usize,
 }
 
@@ -43,9 +54,27 @@ pub extern "C" fn phalandrix_report(table: &[u8], buffer: &mut [u8]) -> Phalandr
     told(report(table, buffer))
 }
 
-#[no_mangle]
-pub extern "C" fn phalandrix_row(table: &[u8], instant: u64, buffer: &mut [u8]) -> PhalandrixAnswer
-    ensures { λ r. ⌜ Told r (now (buffer .exit)) (callOf (now (buffer .entry)) (rowOf (now (table .entry)) instant)) ⌝ }
+pub fn told_row(a: RowAnswer) -> PhalandrixRowAnswer
+    ensures { λ r. ⌜ r ≡ toldRow (a .answer) (a .walked) ⌝ }
 {
-    told(row(table, instant, buffer))
+    let answer = a.answer;
+    let t = told(answer);
+    PhalandrixRowAnswer {
+        number: t.number,
+        line: t.line,
+        column: t.column,
+        walked: a.walked,
+        length: t.length,
+    }
+}
+
+#[no_mangle]
+pub extern "C" fn phalandrix_row(
+    table: &[u8],
+    instant: u64,
+    buffer: &mut [u8],
+) -> PhalandrixRowAnswer
+    ensures { λ r. ⌜ ToldRow r (now (buffer .exit)) (callOf (now (buffer .entry)) (rowOf (now (table .entry)) instant)) (rowTicksOf (now (table .entry)) instant) ⌝ }
+{
+    told_row(row(table, instant, buffer))
 }

@@ -6,14 +6,16 @@ mod reporting;
 mod rowing;
 
 pub use exports::PhalandrixAnswer;
+pub use exports::PhalandrixRowAnswer;
 pub use exports::phalandrix_report;
 pub use exports::phalandrix_row;
 pub use exports::told;
+pub use exports::told_row;
 pub use figures::figures_of;
 pub use plans::Laid;
 pub use plans::planned;
 pub use reporting::put_settled;
 pub use reporting::report;
-pub use rowing::near;
-pub use rowing::put_running;
+pub use rowing::put_row;
 pub use rowing::row;
+pub use rowing::told_with;

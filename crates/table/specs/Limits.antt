@@ -20,6 +20,7 @@ limits =
       «all_nodes» = coded Rules.allNodes;
       level = coded Rules.level;
       hyperperiod = coded Rules.hyperperiod;
+      instant = coded Rules.instant;
       predecessor = coded Rules.predecessor;
       pending = Rules.pending;
       unfinished = Rules.unfinished;

@@ -24,6 +24,7 @@ pub struct Limits {
     pub all_nodes: Range,
     pub level: Range,
     pub hyperperiod: Range,
+    pub instant: Range,
     pub predecessor: Range,
     pub pending: u32,
     pub unfinished: u32,
@@ -152,6 +153,10 @@ impl Table {
     pub const HYPERPERIOD_FROM: u32 = 1;
 
     pub const HYPERPERIOD_TO: u32 = 20_000;
+
+    pub const INSTANT_FROM: u32 = 0;
+
+    pub const INSTANT_TO: u32 = 4_000_000_000;
 
     pub const PREDECESSOR_FROM: u32 = 1;
 
@@ -325,6 +330,10 @@ impl Table {
             hyperperiod: Range {
                 from: Table::HYPERPERIOD_FROM,
                 to: Table::HYPERPERIOD_TO,
+            },
+            instant: Range {
+                from: Table::INSTANT_FROM,
+                to: Table::INSTANT_TO,
             },
             predecessor: Range {
                 from: Table::PREDECESSOR_FROM,

@@ -12,6 +12,7 @@ use Rattle.schedule.specs.Servers.{Server, srv, Box}
 use Rattle.schedule.specs.ServerJobs.{releasedBefore, used}
 use Rattle.schedule.specs.Links.{linked, links}
 use Rattle.schedule.specs.State.{NodeState, State, nodeState, state, sameState, stateAt}
+use Rattle.schedule.specs.FarRows.{moved}
 use Rattle.schedule.proofs.Tests.{by-lt}
 use Rattle.schedule.proofs.Cells.{getD-tab}
 use Rattle.theorems.proofs.Releases.{releasedBefore-shift}
@@ -21,7 +22,7 @@ use Rattle.theorems.proofs.LinkRows.{linked-le, linked-grows, linked-at
 use Rattle.theorems.proofs.Linking.{linkOf, linkedCount, linked-count, links-in-order}
 use Rattle.theorems.proofs.Finishing.{Finished, link-le}
 use Rattle.theorems.proofs.SameRunning.{Periodic}
-use Rattle.theorems.proofs.Repeating.{moved, moved-some, moved-back, SameGraph, Repeated, Agree}
+use Rattle.theorems.proofs.Repeating.{moved-some, moved-back, SameGraph, Repeated, Agree}
 use Rattle.theorems.proofs.SameState.{same-state}
 use Rattle.theorems.proofs.StateRows.{rowOf, same-left, same-ticks, same-link}
 

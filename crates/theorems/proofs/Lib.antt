@@ -26,3 +26,7 @@ pub mod LeastTrue
 pub mod QuietSpans
 pub mod QuietWalk
 pub mod Overlap
+pub mod MappedLists
+pub mod RowsRepeat
+pub mod AllLinked
+pub mod TableRows

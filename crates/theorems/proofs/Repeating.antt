@@ -13,6 +13,7 @@ use Rattle.schedule.specs.Lists.{all?}
 use Rattle.schedule.specs.Servers.{Server, srv}
 use Rattle.schedule.specs.ServerJobs.{released, releasedBefore, used}
 use Rattle.schedule.specs.Links.{dueAfter, due, links, dueBy, finishedBy}
+use Rattle.schedule.specs.FarRows.{moved}
 use Rattle.schedule.proofs.Tests.{and-l, and-r, by-lt, bool-ext, all-under}
 use Rattle.theorems.proofs.Releases.{releasedBefore-le, releasedBefore-one, released-shift, releasedBefore-shift}
 use Rattle.theorems.proofs.InTurn.{budgetOf, usedBy, running, used-step}
@@ -20,10 +21,6 @@ use Rattle.theorems.proofs.LinkRows.{linkedUpTo, linked-last}
 use Rattle.theorems.proofs.Linking.{linkOf, newLink, newLink-is, linkedCount, links-old, links-new, links-none, same-count}
 use Rattle.theorems.proofs.Finishing.{Finished, finished-is, is-finished, finished-next}
 use Rattle.theorems.proofs.SameRunning.{Periodic, runs-shift}
-
--- a link h numbers on; none stays none
-abbrev pub moved : ℕ → ℕ → ℕ
-moved h a = cond (ltb 0 a) (a + h) 0
 
 pub moved-some : (h a : ℕ) → 1 ≤ a → moved h a ≡ a + h
 moved-some h a p = rw (lt-ltb 0 a p)

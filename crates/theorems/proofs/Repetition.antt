@@ -10,11 +10,12 @@ use lib.ListN.{length}
 use Rattle.schedule.specs.Servers.{Server, srv, Box}
 use Rattle.schedule.specs.Links.{dueBy, finishedBy}
 use Rattle.schedule.specs.State.{sameState, stateAt}
+use Rattle.schedule.specs.FarRows.{moved}
 use Rattle.schedule.proofs.Tests.{bool-ext}
 use Rattle.theorems.proofs.InTurn.{usedBy, running, running-ready}
 use Rattle.theorems.proofs.Linking.{linkOf}
 use Rattle.theorems.proofs.Finishing.{finished-is, is-finished}
-use Rattle.theorems.proofs.Repeating.{moved, Repeated, Agree, same-running, due-shift, same-links, agree-for-ever}
+use Rattle.theorems.proofs.Repeating.{Repeated, Agree, same-running, due-shift, same-links, agree-for-ever}
 use Rattle.theorems.proofs.Boundaries.{Sound, agree-at-boundary}
 
 module _ (X : Box) (h : ℕ → ℕ) (need : ℕ → ℕ → ℕ) where

@@ -57,7 +57,7 @@ module _ (S : List Server) (cap : ℕ → ℕ) (H : ℕ) (h : ℕ → ℕ) (y : 
 
   module _ (t : ℕ) (late : (i : ℕ) → (srv S i) .offset ≤ t) (σ σ′ : List (List ℕ)) (agree : (i k : ℕ) → 1 ≤ k → cell σ′ i (k + h i) ≡ cell σ i k)
       (done : (i k : ℕ) → 1 ≤ k → k ≤ h i → (srv S i) .budget ≤ cell σ′ i k) where
-    more : (i : ℕ) → released (srv S i) (t + H) ≡ released (srv S i) t + h i
+    pub more : (i : ℕ) → released (srv S i) (t + H) ≡ released (srv S i) t + h i
     more i = released-shift (srv S i) (h i) H (y .periods i) (y .period-some i) t (late i)
 
     -- `level` places before
@@ -77,7 +77,7 @@ module _ (S : List Server) (cap : ℕ → ℕ) (H : ℕ) (h : ℕ → ℕ) (y : 
         (λ c. let e : k + h i - v ≡ (k - v) + h i = omega arith in inr (rw (e, agree i (k - v) (omega arith)) c)))
         (λ l. by-lt v (k + h i) (λ b. inr (done i (k + h i - v) (omega arith) (omega arith))) (λ b. inl b))
 
-    ready-shift : (i k : ℕ) → 1 ≤ k → ready S σ′ (t + H) (serverJob i (k + h i)) ≡ ready S σ t (serverJob i k)
+    pub ready-shift : (i k : ℕ) → 1 ≤ k → ready S σ′ (t + H) (serverJob i (k + h i)) ≡ ready S σ t (serverJob i k)
     ready-shift i k a = bool-ext _ _ to from
       where
         to : T (ready S σ′ (t + H) (serverJob i (k + h i))) → T (ready S σ t (serverJob i k))
@@ -93,10 +93,10 @@ module _ (S : List Server) (cap : ℕ → ℕ) (H : ℕ) (h : ℕ → ℕ) (y : 
             (record { from = omega arith; to = omega (arith, r .pends .to, more i); left = rw (agree i k a) (r .pends .left) })
             (free-up i k a (r .free))
 
-    not-ready : (i k : ℕ) → 1 ≤ k → k ≤ h i → T (ready S σ′ (t + H) (serverJob i k)) → ⊥
+    pub not-ready : (i k : ℕ) → 1 ≤ k → k ≤ h i → T (ready S σ′ (t + H) (serverJob i k)) → ⊥
     not-ready i k a b x = let r = ready-is S σ′ (t + H) i k x in omega (arith, r .pends .left, done i k a b)
 
-    rank-shift : (i k : ℕ) → 1 ≤ k → rank S σ′ (t + H) (serverJob i (k + h i)) ≡ rank S σ t (serverJob i k)
+    pub rank-shift : (i k : ℕ) → 1 ≤ k → rank S σ′ (t + H) (serverJob i (k + h i)) ≡ rank S σ t (serverJob i k)
     unfolding rank readyJobs
     rank-shift i k a =
         count-keep (λ (x : ServerJob). before S x (serverJob i (k + h i))) (ready S σ′ (t + H)) (joined (jobs (t + H)) 0 (length S))

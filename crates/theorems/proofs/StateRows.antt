@@ -13,11 +13,12 @@ use Rattle.schedule.specs.Servers.{Server, srv}
 use Rattle.schedule.specs.ServerJobs.{releasedBefore, used}
 use Rattle.schedule.specs.Links.{links}
 use Rattle.schedule.specs.State.{PendingJob, behindOf, pendingJob, pendingJobs}
+use Rattle.schedule.specs.FarRows.{moved}
 use Rattle.schedule.proofs.Tests.{by-lt}
 use Rattle.schedule.proofs.Cells.{getD-tab}
 use Rattle.theorems.proofs.InTurn.{budgetOf, usedBy, completed, completed-le, is-complete, not-complete}
 use Rattle.theorems.proofs.Linking.{linkOf}
-use Rattle.theorems.proofs.Repeating.{moved, moved-some}
+use Rattle.theorems.proofs.Repeating.{moved-some}
 
 length-tab : {B : Type 0} (f : ℕ → B) (a n : ℕ) → length (tab f a n) ≡ n
 length-tab f a zero = refl

@@ -31,7 +31,7 @@ pub record Fits (S : List Server) (H O : ℕ) (s : Server) : Type 0 where
   pub level-some : 0 < s .level
   pub same-graph : T (all? (beside S s) (s .predecessors))
 
-getD-mem : {A : Type 0} (l : List A) (i : ℕ) (d : A) → i < length l → List·Memᴰ (getD l i d) l
+pub getD-mem : {A : Type 0} (l : List A) (i : ℕ) (d : A) → i < length l → List·Memᴰ (getD l i d) l
 getD-mem [] i d h = absurd (not-suc-le-zero h)
 getD-mem (x ∷ xs) zero d h = List·Memᴰ·head refl
 getD-mem (x ∷ xs) (suc i) d h = List·Memᴰ·tail (getD-mem xs i d (omega arith))
@@ -165,7 +165,7 @@ module _ (X : Table) (ok : T (wellFormed X)) where
   no-server i l = List·getD-eq-default S noServer l
 
   -- periods of server i in the hyperperiod
-  pub periodsOf : ℕ → ℕ
+  unfoldable pub periodsOf : ℕ → ℕ
   periodsOf i = hyperperiod X / (srv S i) .period
 
   pub table-sound : Sound (boxOf X) periodsOf

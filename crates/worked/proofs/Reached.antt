@@ -38,7 +38,7 @@ questions =
     ∷ report (bytes chain-3-2) enough
     ∷ report (bytes eight-every-1) enough
     ∷ report (bytes chain-1-1-in-1-round) enough
-    ∷ row (bytes chain-1-1) 8 enough
+    ∷ row (bytes chain-1-1) 4000000001 enough
     ∷ report (bytes node-1-every-4) 1
     ∷ []
 

@@ -1,5 +1,6 @@
 -- Document 01's worked tables that are marked *, as document 02 leaves them, in one list, from the bytes of each table; and some more that see
--- a slip which those do not. R-2 changed one: budget 3, level 1, period 2 is 12, where it was 8 with 46 rounds and 7 with 47. The test over the list is proved by computation in proofs/Worked.antt.
+-- a slip which those do not. R-2 changed one: budget 3, level 1, period 2 is 12, where it was 8 with 46 rounds and 7 with 47. R-10 changed
+-- another: the row at 8 of the 1 and 1 chain is one of the third round, where it was 9. The test over the list is proved by computation in proofs/Worked.antt.
 use mathlib.Core.Bool.{Bool, false, _&&_, not}
 use mathlib.Core.List.{List, [], _∷_}
 use Prim.Native.Nat.{ℕ, suc, _-_}
@@ -87,7 +88,7 @@ period-2⁶⁴+4 = "processors=1\nrounds=64\ngraphs=1\nperiod=184467440737095516
 unfoldable pub workedTables : List Worked
 workedTables =
     record { table = node-1-every-4; says = prints "answer=0\nround=1\nticks=4\nresponse=1\n" ∷ [] }
-    ∷ record { table = chain-1-1; says = prints "answer=0\nround=2\nticks=8\nresponse=6\n" ∷ printsRow 1 "run=1,2,1,0\n" ∷ printsRow 5 "run=1,2,2,1\n" ∷ printsRow 2 "" ∷ printsRow 8 "answer=9\nline=0\ncolumn=0\n" ∷ [] }
+    ∷ record { table = chain-1-1; says = prints "answer=0\nround=2\nticks=8\nresponse=6\n" ∷ printsRow 1 "run=1,2,1,0\n" ∷ printsRow 5 "run=1,2,2,1\n" ∷ printsRow 2 "" ∷ printsRow 7 "" ∷ printsRow 8 "run=1,1,3,3\n" ∷ printsRow 9 "run=1,2,3,2\n" ∷ printsRow 15 "" ∷ printsRow 16 "run=1,1,5,5\n" ∷ printsRow 4000000001 "answer=9\nline=0\ncolumn=0\n" ∷ [] }
     ∷ record { table = chain-1-1-in-1-round; says = prints "answer=8\nline=0\ncolumn=0\n" ∷ [] }
     ∷ record { table = chain-1-1-in-2-rounds; says = prints "answer=0\nround=2\nticks=8\nresponse=6\n" ∷ [] }
     ∷ record { table = chain-2-2; says = prints "answer=0\nround=2\nticks=8\nresponse=8\n" ∷ [] }

@@ -5,7 +5,7 @@ use crate::engine::Engine;
 use crate::table::Table;
 use crate::tuned::Tuned;
 use crate::walk::{End, walk};
-use crate::writer::{self, Text};
+use crate::writer::{self, Run, Text};
 
 /// The length of a step.
 #[derive(Clone, Copy, Debug, PartialEq, Eq)]
@@ -39,29 +39,45 @@ pub fn report(pace: Pace, table: &[u8], buffer: &mut [u8]) -> Answer {
     }
 }
 
-pub fn row(pace: Pace, table: &[u8], instant: u64, buffer: &mut [u8]) -> Answer {
+/// The last instant at which there is a row.
+const LAST_INSTANT: u64 = 4_000_000_000;
+
+/// And the ticks walked, 0 for a refusal. Past the stop of a settled walk the table is walked again, to
+/// the matching instant of the last round.
+pub fn row(pace: Pace, table: &[u8], instant: u64, buffer: &mut [u8]) -> (Answer, u32) {
     let (table, hyperperiod) = match judge(table) {
         Ok(judged) => judged,
-        Err(refusal) => return refusal,
+        Err(refusal) => return (refusal, 0),
     };
-    // No walk reaches an instant that needs more than 32 bits.
-    let Ok(asked) = u32::try_from(instant) else { return Answer::refusal(9) };
-    let (end, text) = match pace {
-        Pace::Tuned => {
-            let mut tuned = Tuned::new(&table);
-            let end = tuned.walk(table.largest_offset(), hyperperiod, Some(asked));
-            (end, writer::row(tuned.runs(&table)))
-        }
-        _ => {
-            let mut engine = Engine::new(&table);
-            let end = walk_at(pace, &mut engine, hyperperiod, Some(asked));
-            (end, writer::row(engine.runs()))
-        }
+    let Some(asked) = u32::try_from(instant).ok().filter(|_| instant <= LAST_INSTANT) else {
+        return (Answer::refusal(9), 0);
     };
-    match end {
-        End::Asked => lend(&text, buffer),
-        _ => Answer::refusal(9),
+    let (end, now, mut text) = row_at(pace, &table, hyperperiod, asked, 0);
+    if matches!(end, End::Settled { .. }) {
+        let passed = (asked - now) / hyperperiod + 1;
+        text = row_at(pace, &table, hyperperiod, asked - passed * hyperperiod, passed).2;
     }
+    let answer = text.map_or(Answer::refusal(9), |text| lend(&text, buffer));
+    (answer, if answer.number == 0 { now } else { 0 })
+}
+
+/// How and when the walk to an instant ended, and, if it came there, the row, so many hyperperiods
+/// later.
+fn row_at(pace: Pace, table: &Table, hyperperiod: u32, asked: u32, passed: u32) -> (End, u32, Option<Text>) {
+    let later = |run: Run| {
+        let periods = hyperperiod / table.graphs[run.graph as usize - 1].period;
+        run.moved_on(passed * periods)
+    };
+    if pace == Pace::Tuned {
+        let mut tuned = Tuned::new(table);
+        let end = tuned.walk(table.largest_offset(), hyperperiod, Some(asked));
+        let text = matches!(end, End::Asked).then(|| writer::row(tuned.runs(table).map(later)));
+        return (end, tuned.now, text);
+    }
+    let mut engine = Engine::new(table);
+    let end = walk_at(pace, &mut engine, hyperperiod, Some(asked));
+    let text = matches!(end, End::Asked).then(|| writer::row(engine.runs().map(later)));
+    (end, engine.now, text)
 }
 
 fn walk_at(pace: Pace, engine: &mut Engine, hyperperiod: u32, asked: Option<u32>) -> End {

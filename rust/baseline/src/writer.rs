@@ -1,7 +1,7 @@
 //! The text of an answer, gathered in an array that holds the longest.
 
-/// Eight lines of `run=8,16,1290000,1290000` or of `response=1290000` after
-/// the three first lines of a report stay below this.
+/// Eight lines of `run=8,16,4000000001,4000000001` or of `response=1290000`
+/// after the three first lines of a report stay below this.
 const LONGEST: usize = 256;
 
 pub struct Text {
@@ -55,6 +55,14 @@ pub struct Run {
     pub number: u32,
     /// 0 for an unlinked one.
     pub invocation: u32,
+}
+
+impl Run {
+    /// So many periods later; invocation 0 stays 0.
+    pub fn moved_on(self, periods: u32) -> Run {
+        let invocation = if self.invocation == 0 { 0 } else { self.invocation + periods };
+        Run { number: self.number + periods, invocation, ..self }
+    }
 }
 
 pub fn row(runs: impl Iterator<Item = Run>) -> Text {

@@ -38,7 +38,7 @@ fn report_of(table: &str) -> Result<String, (u32, u32)> {
 }
 
 fn row_of(table: &str, instant: u64) -> Result<String, (u32, u32)> {
-    told(|pace, buffer| row(pace, table.as_bytes(), instant, buffer))
+    told(|pace, buffer| row(pace, table.as_bytes(), instant, buffer).0)
 }
 
 fn answer(round: u32, ticks: u32, responses: &[u32]) -> Result<String, (u32, u32)> {
@@ -70,7 +70,9 @@ fn rows() {
     assert_eq!(row_of(&table, 1), Ok("run=1,2,1,0\n".into()));
     assert_eq!(row_of(&table, 5), Ok("run=1,2,2,1\n".into()));
     assert_eq!(row_of(&table, 2), Ok(String::new()));
-    assert_eq!(row_of(&table, 8), Err((9, 0)));
+    assert_eq!(row_of(&table, 8), Ok("run=1,1,3,3\n".into()));
+    assert_eq!(row_of(&table, 4_000_000_000), Ok("run=1,1,1000000001,1000000001\n".into()));
+    assert_eq!(row_of(&table, 4_000_000_001), Err((9, 0)));
     assert_eq!(row_of(&table, (1 << 32) + 1), Err((9, 0)));
     assert_eq!(row_of(&one(2, 47, 2, &[(3, 1, "none")]), 91), Err((12, 0)));
 }

@@ -31,7 +31,7 @@ pub fn try_once(arguments: &[String]) -> ExitCode {
         let mut buffer = [0; 256];
         let mut make = || match call.as_str() {
             "report" => assert_eq!(library.report(&table, &mut buffer).number, 0),
-            "row" => assert_eq!(library.row(&table, 777, &mut buffer).number, 0),
+            "row" => assert_eq!(library.row(&table, 777, &mut buffer).0.number, 0),
             _ => {}
         };
         let start = 0;

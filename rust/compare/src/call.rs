@@ -14,6 +14,8 @@ pub enum Question {
 #[derive(Clone, Debug, PartialEq, Eq)]
 pub struct Outcome {
     pub answer: Answer,
+    /// Ticks walked, of a row that is answered; else 0.
+    pub walked: u32,
     pub bytes: Vec<u8>,
 }
 
@@ -36,24 +38,26 @@ pub(crate) fn untouched(buffer_length: usize) -> Vec<u8> {
     (0..buffer_length + 2 * GUARD).map(|at| 0x80 | (at as u8).wrapping_mul(37)).collect()
 }
 
-/// The difference of one call from the second simulator's reply, if any.
+/// The difference of one call from the second simulator's reply, if any;
+/// `ticks` are those that a row tells with its text.
 pub fn difference(
     library: &dyn Library,
     table: &[u8],
     question: Question,
-    reply: &Reply,
+    (reply, ticks): (&Reply, u32),
     buffer_length: usize,
 ) -> Option<Difference> {
     let within = GUARD..GUARD + buffer_length;
     let mut bytes = untouched(buffer_length);
     let answer = lend(reply, &mut bytes[within.clone()]);
-    let expected = Outcome { answer, bytes };
+    let walked = if answer.number == 0 { ticks } else { 0 };
+    let expected = Outcome { answer, walked, bytes };
     let mut bytes = untouched(buffer_length);
-    let answer = match question {
-        Question::Report => library.report(table, &mut bytes[within]),
+    let (answer, walked) = match question {
+        Question::Report => (library.report(table, &mut bytes[within]), 0),
         Question::Row(instant) => library.row(table, instant, &mut bytes[within]),
     };
-    let got = Outcome { answer, bytes };
+    let got = Outcome { answer, walked, bytes };
     let library = library.name().to_string();
     (got != expected).then_some(Difference { library, question, buffer_length, expected, got })
 }
@@ -75,6 +79,9 @@ impl fmt::Display for Outcome {
     fn fmt(&self, out: &mut fmt::Formatter) -> fmt::Result {
         let Answer { number, line, column, length } = self.answer;
         write!(out, "number {number}, line {line}, column {column}, length {length}, ")?;
+        if self.walked > 0 {
+            write!(out, "walked {}, ", self.walked)?;
+        }
         let end = self.bytes.len() - GUARD;
         write!(out, "buffer \"{}\"", self.bytes[GUARD..end].escape_ascii())?;
         let clean = untouched(end - GUARD);

@@ -5,6 +5,7 @@ use crate::library::Library;
 use crate::outcomes::Numbers;
 use generator::Rng;
 use simulator::Reply;
+use simulator::limits::INSTANT;
 use simulator::question::Answered;
 
 /// How much is asked of the library for one table.
@@ -32,6 +33,8 @@ impl Effort {
 pub struct Checked {
     pub report: Reply,
     pub calls: Numbers,
+    /// Rows answered at or past the stop.
+    pub far: u64,
     pub plain: Numbers,
     pub difference: Option<Difference>,
 }
@@ -41,28 +44,30 @@ pub fn check(library: &dyn Library, table: &[u8], effort: Effort, rng: &mut Rng)
     let report = answered.report();
     let mut calls = Numbers::default();
     let mut first = None;
-    let mut ask = |question, reply: &Reply, length| {
+    let mut ask = |question, reply: &Reply, ticks, length| {
         if first.is_none() {
             calls[number(reply, length)] += 1;
-            first = difference(library, table, question, reply, length);
+            first = difference(library, table, question, (reply, ticks), length);
         }
     };
+    let mut far = 0;
     let ticks = u64::from(answered.ticks().unwrap_or(0));
     let affordable = (effort.ticks / (ticks + 1)) as usize;
     for length in report_lengths(&report, affordable / 2, rng) {
-        ask(Question::Report, &report, length);
+        ask(Question::Report, &report, 0, length);
     }
     for instant in instants(answered.ticks(), affordable, effort, rng) {
         let reply = answered.row(instant);
+        far += u64::from(instant >= ticks && matches!(reply, Reply::Text(_)));
         for length in lengths(&reply, rng) {
-            ask(Question::Row(instant), &reply, length);
+            ask(Question::Row(instant), &reply, answered.ticks_to(instant), length);
         }
     }
     let mut plain = Numbers::default();
     if let (Some(engine), None) = (library.plain(), &first) {
         first = check_plain(engine, table, &answered, effort, rng, &mut plain);
     }
-    Checked { report, calls, plain, difference: first }
+    Checked { report, calls, far, plain, difference: first }
 }
 
 /// Questions to the plain engine, which goes tick by tick: the report, and as many
@@ -80,15 +85,19 @@ fn check_plain(
     let affordable = (effort.plain_ticks / (ticks + 1)) as usize;
     let rows = instants(answered.ticks(), affordable, effort, rng).into_iter().map(Question::Row);
     for question in [Question::Report].into_iter().chain(rows) {
-        let (reply, walked) = match question {
-            Question::Report => (answered.report(), ticks),
-            Question::Row(instant) => (answered.row(instant), ticks.min(instant)),
+        // A row past the stop is walked twice.
+        let (reply, told, walked) = match question {
+            Question::Report => (answered.report(), 0, ticks),
+            Question::Row(instant) if instant < ticks => {
+                (answered.row(instant), answered.ticks_to(instant), instant)
+            }
+            Question::Row(instant) => (answered.row(instant), answered.ticks_to(instant), 2 * ticks),
         };
         for length in lengths(&reply, rng) {
             if walked <= left {
                 left -= walked;
                 calls[number(&reply, length)] += 1;
-                let found = difference(engine, table, question, &reply, length);
+                let found = difference(engine, table, question, (&reply, told), length);
                 if found.is_some() {
                     return found;
                 }
@@ -122,14 +131,16 @@ fn lengths(reply: &Reply, rng: &mut Rng) -> [usize; 2] {
     }
 }
 
-/// Instants at the ends of the walk, inside it, and far past it.
+/// Instants at the ends of the walk, inside it, past its stop, and past the last one.
 fn instants(ticks: Option<u32>, affordable: usize, effort: Effort, rng: &mut Rng) -> Vec<u64> {
     let Some(ticks) = ticks.map(u64::from) else { return vec![0, rng.draw()] };
-    let far = [u64::MAX, 1 << 32, (1 << 32) + rng.draw() % (ticks + 1), 1 << 63, rng.draw()];
-    let mut instants = vec![0, ticks, rng.pick(&far)];
+    let far = [u64::MAX, 1 << 32, (1 << 32) + rng.draw() % (ticks + 1), 1 << 63, rng.draw(), INSTANT + 1];
+    let past = [ticks + 1, ticks + rng.draw() % (ticks + 2), rng.draw() % INSTANT, INSTANT - 1, INSTANT];
+    let mut instants = vec![0, ticks, rng.pick(&far), rng.pick(&past), rng.pick(&past)];
     instants.extend(ticks.checked_sub(1));
     if effort.first_instants > 0 {
         instants.extend(far);
+        instants.extend(past);
         instants.extend(0..effort.first_instants.min(ticks));
     }
     let inside = if ticks == 0 { 0 } else { affordable.clamp(2, 24) };

@@ -8,7 +8,8 @@ use simulator::{Answer, Batch, Memory, Refusal, limits};
 pub trait Library: Sync {
     fn name(&self) -> &str;
     fn report(&self, table: &[u8], buffer: &mut [u8]) -> Answer;
-    fn row(&self, table: &[u8], instant: u64, buffer: &mut [u8]) -> Answer;
+    /// And the ticks walked for it.
+    fn row(&self, table: &[u8], instant: u64, buffer: &mut [u8]) -> (Answer, u32);
     fn batch(&self, tables: &[u8], lengths: &[usize], buffer: &mut [u8]) -> Batch;
 
     /// Its plain engine, as a library of its own; none where it has no such engine.
@@ -56,9 +57,10 @@ impl Library for Plain {
         Answer { number, line, column, length }
     }
 
-    fn row(&self, table: &[u8], instant: u64, buffer: &mut [u8]) -> Answer {
-        let baseline::Answer { number, line, column, length } = baseline::row(self.0, table, instant, buffer);
-        Answer { number, line, column, length }
+    fn row(&self, table: &[u8], instant: u64, buffer: &mut [u8]) -> (Answer, u32) {
+        let (answer, walked) = baseline::row(self.0, table, instant, buffer);
+        let baseline::Answer { number, line, column, length } = answer;
+        (Answer { number, line, column, length }, walked)
     }
 
     fn batch(&self, tables: &[u8], lengths: &[usize], buffer: &mut [u8]) -> Batch {
@@ -102,9 +104,10 @@ impl Library for Proved {
         Answer { number, line, column, length }
     }
 
-    fn row(&self, table: &[u8], instant: u64, buffer: &mut [u8]) -> Answer {
-        let phalandrix::Answer { number, line, column, length } = phalandrix::row(table, instant, buffer);
-        Answer { number, line, column, length }
+    fn row(&self, table: &[u8], instant: u64, buffer: &mut [u8]) -> (Answer, u32) {
+        let phalandrix::RowAnswer { number, line, column, walked, length } =
+            phalandrix::row(table, instant, buffer);
+        (Answer { number, line, column, length }, walked)
     }
 
     fn plain(&self) -> Option<&dyn Library> {
@@ -174,10 +177,10 @@ impl Library for ProvedPlain {
         Answer { number, line, column, length }
     }
 
-    fn row(&self, table: &[u8], instant: u64, buffer: &mut [u8]) -> Answer {
-        let phalandrix::Answer { number, line, column, length } =
+    fn row(&self, table: &[u8], instant: u64, buffer: &mut [u8]) -> (Answer, u32) {
+        let phalandrix::RowAnswer { number, line, column, walked, length } =
             phalandrix::plain_row(table, instant, buffer);
-        Answer { number, line, column, length }
+        (Answer { number, line, column, length }, walked)
     }
 
     fn batch(&self, tables: &[u8], lengths: &[usize], buffer: &mut [u8]) -> Batch {

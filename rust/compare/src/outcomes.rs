@@ -24,6 +24,8 @@ pub struct Outcomes {
     pub reports: Numbers,
     /// Calls by the number of their answer.
     pub calls: Numbers,
+    /// Rows answered at or past the stop.
+    pub far: u64,
     /// Calls of the plain engine by the number of their answer; none where the library has no such engine.
     pub plain: Numbers,
     /// Calls on several tables that were answered.
@@ -56,6 +58,7 @@ impl Outcomes {
     pub fn missing(&self, by_force: bool) -> Vec<String> {
         let refusals = REFUSALS.map(|number| (format!("refusal {number}"), self.calls[number]));
         let mut all: Vec<(String, u64)> = vec![("a settled table".into(), self.reports[0])];
+        all.push(("a row past the stop".into(), self.far));
         all.extend(refusals);
         all.push(("an answered call on several tables".into(), self.batches));
         if self.plain != Numbers::default() {
@@ -80,6 +83,7 @@ impl AddAssign<&Outcomes> for Outcomes {
         let add = |to: &mut [u64], from: &[u64]| to.iter_mut().zip(from).for_each(|(to, from)| *to += from);
         add(&mut self.reports, &other.reports);
         add(&mut self.calls, &other.calls);
+        self.far += other.far;
         add(&mut self.plain, &other.plain);
         self.batches += other.batches;
         self.forced += other.forced;
@@ -97,7 +101,7 @@ impl fmt::Display for Outcomes {
         let tables: u64 = self.reports.iter().sum();
         let calls: u64 = self.calls.iter().sum();
         write!(out, "{tables} tables, {calls} calls, 0 differences; {} tables settled", self.reports[0])?;
-        write!(out, "; calls answered {}", self.calls[0])?;
+        write!(out, "; calls answered {}, rows past the stop {}", self.calls[0], self.far)?;
         for number in REFUSALS {
             write!(out, ", refused as {number} {}", self.calls[number])?;
         }

@@ -81,12 +81,13 @@ fn run_part(library: &dyn Library, options: &Options, part: u64, end: &AtomicU64
 
 fn run_seed(library: &dyn Library, seed: u64, by_force: bool, outcomes: &mut Outcomes) -> Result<(), Fault> {
     let table = make(seed).text;
-    let Checked { report, calls, plain, difference } =
+    let Checked { report, calls, far, plain, difference } =
         check(library, &table, Effort::USUAL, &mut rng_for(seed));
     if let Some(difference) = difference {
         return Err(shrunken(library, seed, &table, difference));
     }
     outcomes.reports[report_number(&report)] += 1;
+    outcomes.far += far;
     outcomes.calls.iter_mut().zip(calls).for_each(|(all, calls)| *all += calls);
     outcomes.plain.iter_mut().zip(plain).for_each(|(all, calls)| *all += calls);
     if seed.is_multiple_of(BATCHES) {

@@ -18,7 +18,7 @@ impl<F: Fn(&[u8], &[usize], &mut [u8]) -> Batch + Sync> Library for Other<F> {
         Plain(Pace::Tick).report(table, buffer)
     }
 
-    fn row(&self, table: &[u8], instant: u64, buffer: &mut [u8]) -> Answer {
+    fn row(&self, table: &[u8], instant: u64, buffer: &mut [u8]) -> (Answer, u32) {
         Plain(Pace::Tick).row(table, instant, buffer)
     }
 

@@ -20,9 +20,9 @@ impl<F: Fn(Question, &[u8], &mut [u8], Answer) -> Answer + Sync> Library for Spo
         (self.0)(Question::Report, table, buffer, answer)
     }
 
-    fn row(&self, table: &[u8], instant: u64, buffer: &mut [u8]) -> Answer {
-        let answer = Plain(Pace::Tick).row(table, instant, buffer);
-        (self.0)(Question::Row(instant), table, buffer, answer)
+    fn row(&self, table: &[u8], instant: u64, buffer: &mut [u8]) -> (Answer, u32) {
+        let (answer, walked) = Plain(Pace::Tick).row(table, instant, buffer);
+        ((self.0)(Question::Row(instant), table, buffer, answer), walked)
     }
 
     fn batch(&self, tables: &[u8], lengths: &[usize], buffer: &mut [u8]) -> Batch {
@@ -143,7 +143,7 @@ impl<F: Fn(Question, &[u8], &mut [u8], Answer) -> Answer + Sync> Library for Spo
         Plain(Pace::Tick).report(table, buffer)
     }
 
-    fn row(&self, table: &[u8], instant: u64, buffer: &mut [u8]) -> Answer {
+    fn row(&self, table: &[u8], instant: u64, buffer: &mut [u8]) -> (Answer, u32) {
         Plain(Pace::Tick).row(table, instant, buffer)
     }
 

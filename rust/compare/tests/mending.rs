@@ -19,7 +19,7 @@ impl<F: Fn(&[u8], &mut [u8], &mut [u8], Salvaged) -> Salvaged + Sync> Library fo
         Plain(Pace::Event).report(table, buffer)
     }
 
-    fn row(&self, table: &[u8], instant: u64, buffer: &mut [u8]) -> Answer {
+    fn row(&self, table: &[u8], instant: u64, buffer: &mut [u8]) -> (Answer, u32) {
         Plain(Pace::Event).row(table, instant, buffer)
     }
 

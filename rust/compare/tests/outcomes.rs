@@ -19,6 +19,7 @@ fn all() -> Outcomes {
     Outcomes {
         reports: once,
         calls: once,
+        far: 1,
         plain: once,
         batches: 1,
         forced: 1,
@@ -63,6 +64,8 @@ fn each_outcome_is_missed() {
     let mut unsettled = all();
     unsettled.reports[0] = 0;
     assert_eq!(unsettled.missing(true), ["a settled table"]);
+    let near = Outcomes { far: 0, ..all() };
+    assert_eq!(near.missing(false), ["a row past the stop"]);
     assert_eq!(Outcomes { batches: 0, ..all() }.missing(true), ["an answered call on several tables"]);
     let bare = Outcomes { invocations: 0, attained: 0, ..all() };
     assert_eq!(bare.missing(true), ["an invocation within its figure", "a figure attained"]);
@@ -113,7 +116,7 @@ impl Library for OftenWrong {
         answer
     }
 
-    fn row(&self, table: &[u8], instant: u64, buffer: &mut [u8]) -> Answer {
+    fn row(&self, table: &[u8], instant: u64, buffer: &mut [u8]) -> (Answer, u32) {
         Plain(Pace::Tick).row(table, instant, buffer)
     }
 

@@ -36,6 +36,32 @@ impl Answer {
     }
 }
 
+/// What a row call returns: an [`Answer`], and the ticks that the rules walk for the row from tick 0, the
+/// smaller of the instant asked and the stop; 0 with a refusal.
+#[repr(C)]
+#[derive(Clone, Copy, Debug, PartialEq, Eq)]
+#[must_use = "it may be a refusal"]
+pub struct RowAnswer {
+    /// 0 where the question was answered, else the number of the refusal.
+    pub number: u32,
+    /// The line of the table that is refused, or 0.
+    pub line: u32,
+    /// The column at fault in that line, counted in bytes from 1; or 0.
+    pub column: u32,
+    /// The ticks walked, or 0.
+    pub walked: u32,
+    /// The bytes of text written.
+    pub length: usize,
+}
+
+impl RowAnswer {
+    /// The answer without the ticks walked.
+    pub fn answer(self) -> Answer {
+        let RowAnswer { number, line, column, walked: _, length } = self;
+        Answer { number, line, column, length }
+    }
+}
+
 /// What a call on several tables returns: number, line and column 0 and as many answers as tables; or the
 /// number of a refusal and count 0. The answers past the count are all zeros.
 #[repr(C)]
@@ -76,7 +102,7 @@ unsafe extern "C" {
         instant: u64,
         buffer: *mut u8,
         buffer_len: usize,
-    ) -> Answer;
+    ) -> RowAnswer;
     fn phalandrix_plain_report(
         table: *const u8,
         table_len: usize,
@@ -89,7 +115,7 @@ unsafe extern "C" {
         instant: u64,
         buffer: *mut u8,
         buffer_len: usize,
-    ) -> Answer;
+    ) -> RowAnswer;
     fn phalandrix_batch(
         tables: *const u8,
         tables_len: usize,
@@ -111,7 +137,7 @@ pub fn report(table: &[u8], buffer: &mut [u8]) -> Answer {
 
 /// The row of a table at an instant, written at the beginning of the lent buffer. The rest of the buffer
 /// is left as it was, and on refusal all of it.
-pub fn row(table: &[u8], instant: u64, buffer: &mut [u8]) -> Answer {
+pub fn row(table: &[u8], instant: u64, buffer: &mut [u8]) -> RowAnswer {
     // SAFETY: as in `report`; the instant is a plain number.
     unsafe { phalandrix_row(table.as_ptr(), table.len(), instant, buffer.as_mut_ptr(), buffer.len()) }
 }
@@ -124,7 +150,7 @@ pub fn plain_report(table: &[u8], buffer: &mut [u8]) -> Answer {
 }
 
 /// What [`row`] gives, by the plain engine.
-pub fn plain_row(table: &[u8], instant: u64, buffer: &mut [u8]) -> Answer {
+pub fn plain_row(table: &[u8], instant: u64, buffer: &mut [u8]) -> RowAnswer {
     // SAFETY: as in `row`.
     unsafe { phalandrix_plain_row(table.as_ptr(), table.len(), instant, buffer.as_mut_ptr(), buffer.len()) }
 }

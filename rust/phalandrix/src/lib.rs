@@ -18,6 +18,9 @@
 //! let row = phalandrix::row_at(table, 5)?;
 //! let run = row.runs().next().expect("one server job runs");
 //! assert_eq!((run.graph, run.node, run.server_job, run.invocation), (1, 2, 2, Some(1)));
+//! // Far past the stop at tick 8, where the schedule was seen to repeat:
+//! let row = phalandrix::row_at(table, 4_000_000_000)?;
+//! assert_eq!((row.as_str(), row.walked()), ("run=1,1,1000000001,1000000001\n", 8));
 //!
 //! let two = [table.as_slice(), b"x"];
 //! let mut buffer = [0; 2 * phalandrix::REPORT_BYTES];
@@ -50,7 +53,7 @@ mod salvage;
 mod tables;
 mod text;
 
-pub use calls::{Answer, BatchAnswer, batch, plain_report, plain_row, report, row, shares};
+pub use calls::{Answer, BatchAnswer, RowAnswer, batch, plain_report, plain_row, report, row, shares};
 pub use margins::{MarginAnswer, MarginRefusal, Margins, margin, margins_of};
 pub use refusal::{
     FIXES_BYTES, InTable, MARGIN_BYTES, PLAIN_STACK_BYTES, REPORT_BYTES, ROW_BYTES, Reason, Refusal,

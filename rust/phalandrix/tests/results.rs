@@ -39,7 +39,7 @@ fn refusals_as_values() {
         refusal.to_string().starts_with("line 2, column 8: refusal 3: a number is outside its limits"),
         "{refusal}"
     );
-    let refusal = row_at(TABLE, 8).unwrap_err();
+    let refusal = row_at(TABLE, 4_000_000_001).unwrap_err();
     assert_eq!((refusal.reason, refusal.line, refusal.column), (Reason::PastTheStop, 0, 0));
     assert!(refusal.to_string().starts_with("refusal 9: the instant asked is"), "{refusal}");
 }

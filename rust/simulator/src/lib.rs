@@ -12,6 +12,7 @@
 //! - `state`, `walk`: the state at a boundary and where the walk stops;
 //! - `reply`, `text`: answers, refusals and the lent buffer;
 //! - `question`: the two calls on one table; `batch`: several tables in one call;
+//! - `far`: rows past the stop;
 //! - `margin`: R-12, the margins against a text of limits;
 //! - `salvage`: R-5, from document 02 alone;
 //! - `demand3`: the figure checked by force;
@@ -20,6 +21,7 @@
 
 pub mod batch;
 pub mod demand3;
+pub mod far;
 pub mod history;
 pub mod limits;
 pub mod load;

@@ -32,6 +32,9 @@ pub const LIMIT: Limit = Limit { from: 0, to: 2_000_000 };
 /// Tables of one call.
 pub const TABLES: Limit = Limit { from: 1, to: 16 };
 
+/// Document 02, R-10: the last instant at which there is a row.
+pub const INSTANT: u64 = 4_000_000_000;
+
 /// More pending server jobs of one server than this is backlog.
 pub const PENDING: usize = 16;
 /// More unfinished invocations of one graph than this is backlog.

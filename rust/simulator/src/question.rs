@@ -4,7 +4,7 @@ use crate::reply::{Refusal, Reply};
 use crate::schedule::Run;
 use crate::table::Table;
 use crate::walk::{Stop, Walk, walk};
-use crate::{load, reader, text};
+use crate::{far, load, reader, text};
 
 /// Answers for the report, in the order of the table of refusals.
 pub fn report(table: &[u8]) -> Reply {
@@ -16,18 +16,7 @@ pub fn report(table: &[u8]) -> Reply {
 
 /// Answers for the row at `instant`.
 pub fn row(table: &[u8], instant: u64) -> Reply {
-    match judge(table) {
-        Err(refusal) => refusal.into(),
-        Ok((table, hyperperiod)) => {
-            let mut found = None;
-            walk(&table, hyperperiod, |at, running| {
-                if u64::from(at) == instant {
-                    found = Some(text::row(running));
-                }
-            });
-            row_of(found)
-        }
-    }
+    Answered::new(table).row(instant)
 }
 
 /// A table that passes refusals 1 to 6 and 12, and its hyperperiod.
@@ -46,17 +35,14 @@ fn report_of(walk: &Walk) -> Reply {
     }
 }
 
-/// The row seen before the stop, or refusal 9.
-fn row_of(row: Option<Vec<u8>>) -> Reply {
-    row.map_or(Reply::Refused { number: 9, line: 0, column: 0 }, Reply::Text)
-}
-
 /// Both calls on one table, its walk walked once and every row kept.
 pub struct Answered {
     walked: Result<Walked, Refusal>,
 }
 
 struct Walked {
+    table: Table,
+    hyperperiod: u32,
     walk: Walk,
     rows: Vec<Vec<Run>>,
 }
@@ -66,7 +52,7 @@ impl Answered {
         let walked = judge(table).map(|(table, hyperperiod)| {
             let mut rows = Vec::new();
             let walk = walk(&table, hyperperiod, |_, running| rows.push(running.to_vec()));
-            Walked { walk, rows }
+            Walked { table, hyperperiod, walk, rows }
         });
         Answered { walked }
     }
@@ -74,6 +60,13 @@ impl Answered {
     /// The instant of the stop; none if the table was refused before it.
     pub fn ticks(&self) -> Option<u32> {
         self.walked.as_ref().ok().map(|walked| walked.walk.ticks)
+    }
+
+    /// The ticks walked by the rules for a row that is answered: the
+    /// smaller of the instant asked and the stop.
+    pub fn ticks_to(&self, instant: u64) -> u32 {
+        let stop = self.ticks().unwrap_or(0);
+        u32::try_from(instant).map_or(stop, |instant| instant.min(stop))
     }
 
     pub fn report(&self) -> Reply {
@@ -86,10 +79,18 @@ impl Answered {
     pub fn row(&self, instant: u64) -> Reply {
         match &self.walked {
             Err(refusal) => (*refusal).into(),
-            Ok(walked) => {
-                let running = usize::try_from(instant).ok().and_then(|at| walked.rows.get(at));
-                row_of(running.map(|running| text::row(running)))
-            }
+            Ok(walked) => walked.row(instant),
         }
+    }
+}
+
+impl Walked {
+    /// The row, or refusal 9.
+    fn row(&self, instant: u64) -> Reply {
+        let Some(found) = far::matching(&self.walk, self.hyperperiod, instant) else {
+            return Reply::Refused { number: 9, line: 0, column: 0 };
+        };
+        let running = &self.rows[usize::try_from(found.instant).expect("before the stop")];
+        Reply::Text(text::row(&far::moved_on(&self.table, self.hyperperiod, running, found.passed)))
     }
 }

@@ -73,8 +73,9 @@ fn five_then_six_then_twelve() {
 fn rows_of_each_call_before_and_at_the_stop() {
     let settled = bytes(1, 64, vec![chain(4, 0, &[1])]);
     assert_eq!(row(&settled, 3), text(""));
-    assert_eq!(row(&settled, 4), refused(9, 0));
-    for instant in [5, 1 << 32, (1 << 32) + 1, 1 << 63, u64::MAX] {
+    assert_eq!(row(&settled, 4), text("run=1,1,2,2\n"));
+    assert_eq!(row(&settled, 5), text(""));
+    for instant in [4_000_000_001, 1 << 32, (1 << 32) + 1, 1 << 63, u64::MAX] {
         assert_eq!(row(&settled, instant), refused(9, 0), "{instant}");
     }
 }

@@ -17,7 +17,13 @@ fn chain_of_one_and_one() {
     assert_eq!(row(&table, 1), text("run=1,2,1,0\n"));
     assert_eq!(row(&table, 5), text("run=1,2,2,1\n"));
     assert_eq!(row(&table, 2), text(""));
-    assert_eq!(row(&table, 8), refused(9, 0));
+    assert_eq!(row(&table, 7), text(""));
+    assert_eq!(row(&table, 8), text("run=1,1,3,3\n"));
+    assert_eq!(row(&table, 9), text("run=1,2,3,2\n"));
+    assert_eq!(row(&table, 15), text(""));
+    assert_eq!(row(&table, 16), text("run=1,1,5,5\n"));
+    assert_eq!(row(&table, 4_000_000_000), text("run=1,1,1000000001,1000000001\n"));
+    assert_eq!(row(&table, 4_000_000_001), refused(9, 0));
     assert_eq!(row(&table, u64::MAX), refused(9, 0));
 }
 

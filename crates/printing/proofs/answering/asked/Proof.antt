@@ -12,11 +12,11 @@ report-requires c κs = search needs
 enum-known-q : tie.Need-enum-known-q
 enum-known-q c = search needs
 
-cast-row : tie.Need-cast-row
-cast-row c = search needs
+cast-asked-row : tie.Need-cast-asked-row
+cast-asked-row c = search needs
 
-row-requires : tie.Need-row-requires
-row-requires c κs = search needs
+asked-row-requires : tie.Need-asked-row-requires
+asked-row-requires c κs = search needs
 
 enum-told-2 : tie.Need-enum-told-2
 enum-told-2 c = search needs
@@ -33,11 +33,11 @@ plain-report-requires c κs = search needs
 enum-known-q-2 : tie.Need-enum-known-q-2
 enum-known-q-2 c = search needs
 
-cast-plain-row : tie.Need-cast-plain-row
-cast-plain-row c = search needs
+cast-asked-plain-row : tie.Need-cast-asked-plain-row
+cast-asked-plain-row c = search needs
 
-plain-row-requires : tie.Need-plain-row-requires
-plain-row-requires c κs = search needs
+asked-plain-row-requires : tie.Need-asked-plain-row-requires
+asked-plain-row-requires c κs = search needs
 
 same-length : tie.Need-same-length
 same-length c = search needs
@@ -49,7 +49,7 @@ same-length-2 : tie.Need-same-length-2
 same-length-2 c = search needs
 
 returns-2 : tie.Need-returns-2
-returns-2 c = rw (c .before .before .before .before .before .q .given .1) (c .before .before .row .ensures)
+returns-2 c = rw (c .before .before .before .before .before .q .given .1) (c .before .before .asked-row .ensures)
 
 same-length-3 : tie.Need-same-length-3
 same-length-3 c = search needs
@@ -67,7 +67,7 @@ same-length-5 : tie.Need-same-length-5
 same-length-5 c = search needs
 
 returns-5 : tie.Need-returns-5
-returns-5 c = rw (c .before .before .before .before .before .q2 .given .1) (c .before .before .plain-row .ensures)
+returns-5 c = rw (c .before .before .before .before .before .q2 .given .1) (c .before .before .asked-plain-row .ensures)
 
 pub asked-spec : {M : Type 1} → statement M
 asked-spec =
@@ -76,15 +76,15 @@ asked-spec =
     enum-told
     report-requires
     enum-known-q
-    cast-row
-    row-requires
+    cast-asked-row
+    asked-row-requires
     enum-told-2
     rewrite-requires
     enum-told-3
     plain-report-requires
     enum-known-q-2
-    cast-plain-row
-    plain-row-requires
+    cast-asked-plain-row
+    asked-plain-row-requires
     same-length
     returns
     same-length-2

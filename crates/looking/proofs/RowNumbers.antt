@@ -7,18 +7,20 @@ use native.Mathlib.Nat.{div-le-self}
 use native.Mathlib.Omega.{arith}
 use lib.Dec.{ltb, eqb}
 use lib.ListN.{length, getD}
-use Rattle.schedule.specs.Limits as Limits
 use Rattle.schedule.specs.Lists.{keep, joined}
 use Rattle.schedule.specs.Table.{Graph, Node}
 use Rattle.schedule.specs.Servers.{Server, noServer, ofNodes, ofGraphs, srv, Box}
 use Rattle.schedule.specs.ServerJobs.{ServerJob, released, releasedBefore, jobsFrom, ready, readyJobs, rank, used}
-use Rattle.schedule.specs.Walk.{runningAt, rowAt}
+use Rattle.schedule.specs.Walk.{Running, runningAt, rowAt}
 use Rattle.schedule.proofs.Tests.{either-way, dec}
 use Rattle.theorems.proofs.LinkRows.{InOrder, linked-le}
 use Rattle.theorems.proofs.Linking.{linkOf, links-in-order}
 use Rattle.rules.proofs.ReadWellFormed.{nodesIn}
-use Rattle.window.proofs.Relation.{lastInstant}
-use Rattle.sheet.proofs.TextLengths.{Each, SmallRun}
+
+-- each entry of a list
+abbrev pub Each : {A : Type 0} → (A → Type 0) → List A → Type 0
+Each P [] = Unit {0}
+Each P (x ∷ xs) = P x × Each P xs
 
 -- each entry of a list made of others
 each-append : {A : Type 0} (P : A → Type 0) (l r : List A) → Each P l → Each P r → Each P (l ++ r)
@@ -37,7 +39,11 @@ each-map : {A B : Type 0} (P : B → Type 0) (f : A → B) (l : List A) → Each
 each-map P f [] a = tt
 each-map P f (x ∷ l) (p, a) = (p, each-map P f l a)
 
-each-under : {A : Type 0} (P Q : A → Type 0) → ((x : A) → P x → Q x) → (l : List A) → Each P l → Each Q l
+pub each-read : {A B : Type 0} (P : B → Type 0) (f : A → B) (l : List A) → Each P (map f l) → Each (λ (x : A). P (f x)) l
+each-read P f [] a = tt
+each-read P f (x ∷ l) (p, a) = (p, each-read P f l a)
+
+pub each-under : {A : Type 0} (P Q : A → Type 0) → ((x : A) → P x → Q x) → (l : List A) → Each P l → Each Q l
 each-under P Q h [] a = tt
 each-under P Q h (x ∷ l) (p, a) = (h x p, each-under P Q h l a)
 
@@ -89,31 +95,36 @@ link-most S cap need t i zero a b = absurd (let x : ⊥ = omega arith in x)
 link-most S cap need t i (suc k) a b =
     either-way (links-in-order S cap need (suc t) i k b) (λ z. omega arith) (λ z. omega (arith, z, linked-le (linkOf S cap need (suc t) i) k))
 
-module _ (X : Box) (need : ℕ → ℕ → ℕ) (t : ℕ) (early : t ≤ lastInstant)
-    (numbered : Each (Numbered (Limits.graphs .to) (Limits.allNodes .to)) (X .servers)) where
+-- what is known of an entry of the row at t
+pub record Entry (most many t : ℕ) (x : Running) : Type 0 where
+  pub graph : x .graph ≤ most
+  pub node : x .node ≤ many
+  pub serverJob : x .serverJob ≤ t + 1
+  pub invocation : x .invocation ≤ t + 1
+
+module _ (X : Box) (need : ℕ → ℕ → ℕ) (t most many : ℕ) (numbered : Each (Numbered most many) (X .servers)) where
   abbrev S : List Server
   S = X .servers
 
-  run-small : (x : ServerJob) → Known S t x → SmallRun (runningAt X need t x)
+  run-entry : (x : ServerJob) → Known S t x → Entry most many t (runningAt X need t x)
   unfolding runningAt
-  run-small x (a, b) =
-      let n : Numbered (Limits.graphs .to) (Limits.allNodes .to) (srv S (x .server)) =
-      each-at (Numbered (Limits.graphs .to) (Limits.allNodes .to)) noServer (omega arith, omega arith) S (x .server) numbered in
+  run-entry x (a, b) =
+      let n : Numbered most many (srv S (x .server)) = each-at (Numbered most many) noServer (omega arith, omega arith) S (x .server) numbered in
       let r = released-most (srv S (x .server)) t in
       record {
-        graph = omega (arith, n .0);
-        node = omega (arith, n .1);
+        graph = n .0;
+        node = n .1;
         serverJob = omega (arith, b, r);
         invocation = omega (arith, b, r, link-most S (X .cap) need t (x .server) (x .number) a b);
       }
 
-  pub row-small : Each SmallRun (rowAt X need t)
+  pub row-entries : Each (Entry most many t) (rowAt X need t)
   unfolding rowAt
-  row-small =
+  row-entries =
       let σ : List (List ℕ) = used S (X .cap) t in
       let ready : List ServerJob = readyJobs S σ t in
       let ranked : ℕ → List ServerJob = λ (r : ℕ). keep (λ (x : ServerJob). eqb (rank S σ t x) r) ready in
       let all : List ServerJob = joined ranked 0 (X .cap t) in
-      each-map SmallRun (runningAt X need t) all
-      (each-under (Known S t) (λ (x : ServerJob). SmallRun (runningAt X need t x)) run-small all
+      each-map (Entry most many t) (runningAt X need t) all
+      (each-under (Known S t) (λ (x : ServerJob). Entry most many t (runningAt X need t x)) run-entry all
       (each-joined (Known S t) ranked 0 (X .cap t) (λ r. each-keep (Known S t) (λ (x : ServerJob). eqb (rank S σ t x) r) ready (ready-known S t σ))))
