@@ -28,7 +28,7 @@
 extern "C" {
 #endif
 
-#define PHALANDRIX_VERSION "0.2.0"
+#define PHALANDRIX_VERSION "0.3.0"
 
 /* number, line and column 0 and the length of the text; or the number of a refusal, its line and its
  * column (0 where it has none; columns are counted in bytes from 1) and length 0. */
