@@ -97,6 +97,8 @@ enum {
      * buffers are that long is never refused as PHALANDRIX_SHORT_BUFFER; this is proved. */
     PHALANDRIX_SALVAGE_BYTES = 4096,
     PHALANDRIX_FIXES_BYTES = 45067,
+    /* The length of the longest text of margins; as for the report, this is proved. */
+    PHALANDRIX_MARGIN_BYTES = 364,
     /* The bytes of stack that a call needs at most: measured, rounded up, and held by tests/stack.c.
      * It is not proved. */
     PHALANDRIX_STACK_BYTES = 16384,
@@ -172,6 +174,27 @@ phalandrix_answer phalandrix_plain_report(const uint8_t *table, size_t table_len
                                           uint8_t *buffer, size_t buffer_length);
 
 phalandrix_row_answer phalandrix_plain_row(const uint8_t *table, size_t table_length, uint64_t instant,
+                                           uint8_t *buffer, size_t buffer_length);
+
+/* number, line, column and in_limits 0 and the length of the text; or the number of a refusal, its line
+ * and column, and length 0. in_limits is 1 where the refusal is of the limit text, so that its line and
+ * column are counted there, and 0 else. */
+typedef struct phalandrix_margin_answer {
+    uint32_t number;
+    uint32_t line;
+    uint32_t column;
+    uint32_t in_limits;
+    size_t length;
+} phalandrix_margin_answer;
+
+/* The margins of a table against the age limit of each graph: the report, with a line `margin=` after
+ * each `response=`, the limit less the response, with a minus sign when the figure is over. The limit
+ * text has one line `limit=` per graph, 0 to 2,000,000. A margin is zero or more exactly when no
+ * invocation within budgets can ever break the limit; this is proved. Refused are the table's own
+ * first, 7, 8 and 12 included; then 1, 2 and 3 of the limit text; then 10. The three ranges must not
+ * overlap. */
+phalandrix_margin_answer phalandrix_margin(const uint8_t *table, size_t table_length,
+                                           const uint8_t *limits, size_t limits_length,
                                            uint8_t *buffer, size_t buffer_length);
 
 /* Number, line and column 0 and the lengths of the text and of the list; or the number of a refusal,

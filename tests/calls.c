@@ -181,6 +181,45 @@ static void expect_batch(const char *name, const char *bytes, const size_t *leng
     }
 }
 
+/* Margins: the answer, which text a refusal is of, and every byte of the buffer. */
+static void expect_margin(const char *name, const char *bytes, const char *limits, size_t room, uint32_t number,
+                          uint32_t line, uint32_t column, uint32_t in_limits, const char *text)
+{
+    uint8_t b[ROOM];
+    size_t length = strlen(text);
+    phalandrix_margin_answer a;
+    int fine;
+
+    memset(b, UNTOUCHED, ROOM);
+    a = phalandrix_margin((const uint8_t *)bytes, strlen(bytes), (const uint8_t *)limits, strlen(limits), b, room);
+    fine = a.number == number && a.line == line && a.column == column && a.in_limits == in_limits
+        && a.length == length && memcmp(b, text, length) == 0;
+    for (size_t i = length; i < ROOM; i++)
+        fine = fine && b[i] == UNTOUCHED;
+    if (!fine) {
+        printf("%s: number %u, line %u, column %u, in the limits %u, length %zu\n", name, (unsigned)a.number,
+               (unsigned)a.line, (unsigned)a.column, (unsigned)a.in_limits, a.length);
+        failures++;
+    }
+}
+
+static void margins(void)
+{
+    static const char met[] = "answer=0\nround=2\nticks=8\nresponse=6\nmargin=0\n";
+    static const char over[] = "answer=0\nround=2\nticks=8\nresponse=6\nmargin=-1\n";
+
+    expect_margin("a limit that is met", table, "limit=6\n", ROOM, PHALANDRIX_ANSWERED, 0, 0, 0, met);
+    expect_margin("a figure that is over", table, "limit=5\n", PHALANDRIX_MARGIN_BYTES, PHALANDRIX_ANSWERED, 0, 0, 0,
+                  over);
+    expect_margin("margins that just fit", table, "limit=5\n", strlen(over), PHALANDRIX_ANSWERED, 0, 0, 0, over);
+    expect_margin("margins too long", table, "limit=5\n", strlen(over) - 1, PHALANDRIX_SHORT_BUFFER, 0, 0, 0, "");
+    expect_margin("no limits", table, "", ROOM, PHALANDRIX_MISSPELLED, 1, 1, 1, "");
+    expect_margin("a limit too many", table, "limit=6\nlimit=6\n", ROOM, PHALANDRIX_MISSPELLED, 2, 1, 1, "");
+    expect_margin("a limit outside", table, "limit=2000001\n", 0, PHALANDRIX_OUTSIDE_LIMITS, 1, 7, 1, "");
+    expect_margin("the table's own first", too_slow, "", ROOM, PHALANDRIX_CANNOT_KEEP_UP, 0, 0, 0, "");
+    expect_margin("no table and no limits", "", "", ROOM, PHALANDRIX_MISSPELLED, 1, 1, 0, "");
+}
+
 static void salvages(void)
 {
     static uint8_t long_text[PHALANDRIX_SALVAGE_BYTES], t[PHALANDRIX_SALVAGE_BYTES], l[PHALANDRIX_FIXES_BYTES];
@@ -272,6 +311,7 @@ int main(void)
     expect("nothing at all", phalandrix_report(NULL, 0, NULL, 0), b, PHALANDRIX_MISSPELLED, 1, "");
     plain_calls();
     salvages();
+    margins();
     expect_batches();
     expect_sentence(PHALANDRIX_ANSWERED, "answered");
     expect_sentence(PHALANDRIX_TOO_LONG, "the table has more than 4,096 bytes");

@@ -1,6 +1,6 @@
 /* The stack of the calls: each table named is reported, its row taken at 0 and at the last instant, it is
- * salvaged, reported twice in one call, read and written, and reported and its row taken by the plain engine,
- * on a stack that was painted before, and the paint gone is counted. PHALANDRIX_STACK_BYTES must hold every
+ * salvaged, reported twice in one call, read and written, held to limits, and reported and its row taken by the
+ * plain engine, on a stack that was painted before, and the paint gone is counted. PHALANDRIX_STACK_BYTES must hold every
  * call, and PHALANDRIX_PLAIN_STACK_BYTES the two of the plain engine. */
 #define _GNU_SOURCE
 #include "phalandrix.h"
@@ -29,6 +29,14 @@ static void make_far_row(void)
 static void make_salvage(void)
 {
     phalandrix_salvage(table, table_length, text, sizeof text, list, sizeof list);
+}
+
+static void make_margins(void)
+{
+    static const uint8_t limits[] = "limit=1\nlimit=1\nlimit=1\nlimit=1\nlimit=1\nlimit=1\nlimit=1\nlimit=1\n";
+    /* as many lines as the table has graphs, where it is a table */
+    size_t count = reading.number == 0 ? reading.table.graphs : 1;
+    phalandrix_margin(table, table_length, limits, 8 * count, buffer, sizeof buffer);
 }
 
 static void make_batch(void)
@@ -78,7 +86,7 @@ static size_t larger(size_t one, size_t other) { return one > other ? one : othe
 
 int main(int count, char **names)
 {
-    size_t report = 0, row = 0, batch = 0, salvage = 0, reads = 0, writes = 0, without = used_by(nothing);
+    size_t report = 0, row = 0, batch = 0, salvage = 0, reads = 0, writes = 0, margins = 0, without = used_by(nothing);
     size_t plain_report = 0, plain_row = 0;
 
     for (int i = 1; i < count; i++) {
@@ -93,16 +101,17 @@ int main(int count, char **names)
         salvage = larger(salvage, used_by(make_salvage) - without);
         reads = larger(reads, used_by(make_reading) - without);
         writes = larger(writes, used_by(make_text) - without);
+        margins = larger(margins, used_by(make_margins) - without);
         plain_report = larger(plain_report, used_by(make_plain_report) - without);
         plain_row = larger(plain_row, used_by(make_plain_row) - without);
         plain_row = larger(plain_row, used_by(make_plain_far_row) - without);
     }
     printf("tests/stack: over %d tables report used %zu bytes of stack, row %zu, batch %zu, salvage %zu, "
-           "read %zu, write %zu; the header says %d; plain report used %zu, plain row %zu; the header says %d\n",
-           count - 1, report, row, batch, salvage, reads, writes, PHALANDRIX_STACK_BYTES, plain_report,
+           "read %zu, write %zu, margin %zu; the header says %d; plain report used %zu, plain row %zu; the header says %d\n",
+           count - 1, report, row, batch, salvage, reads, writes, margins, PHALANDRIX_STACK_BYTES, plain_report,
            plain_row, PHALANDRIX_PLAIN_STACK_BYTES);
     return plain_report == 0 || plain_row == 0
-        || larger(plain_report, plain_row) > PHALANDRIX_PLAIN_STACK_BYTES || report == 0 || row == 0 || batch == 0 || salvage == 0 || reads == 0 || writes == 0
-        || larger(larger(larger(report, row), larger(batch, salvage)), larger(reads, writes))
+        || larger(plain_report, plain_row) > PHALANDRIX_PLAIN_STACK_BYTES || report == 0 || row == 0 || batch == 0 || salvage == 0 || reads == 0 || writes == 0 || margins == 0
+        || larger(larger(larger(report, row), larger(batch, salvage)), larger(larger(reads, writes), margins))
             > PHALANDRIX_STACK_BYTES;
 }

@@ -45,6 +45,10 @@ fn rust_of(header: &str) -> String {
         ("ROW_BYTES", "The length of the longest row: no call with such a buffer is refused as 10."),
         ("SALVAGE_BYTES", "The length of the longest text that is left of a spoiled one."),
         ("FIXES_BYTES", "The length of the longest list of what was mended."),
+        (
+            "MARGIN_BYTES",
+            "The length of the longest text of margins: no call with such a buffer is refused as 10.",
+        ),
         ("TABLES", "The tables of one call, at most."),
         (
             "WRITTEN_BYTES",

@@ -21,7 +21,7 @@ use Rattle.asking.specs.declared.questions.Asked.the-variants as Asked
 use Rattle.asking.specs.declared.lengths.Lengths.{Lengths}
 use Rattle.asking.specs.Instants.{atEnd, instantBy, instantOf}
 use Rattle.asking.specs.Lengths.{isAt, isNumber, noLengths, lengthsOn, lengthsBy}
-use Rattle.asking.specs.Questions.{row, batch, salvage, fixes, rewrite, plain, longestWord, wholly, isWord, rowAsked, rewriteAsked, plainAsked, plainRowAsked, plainAskedBy, outputAsked, textAskedBy, textQuestion, batchAsked, questionOf, asked, fitting, Told}
+use Rattle.asking.specs.Questions.{row, batch, salvage, fixes, rewrite, plain, margin, longestWord, wholly, isWord, rowAsked, rewriteAsked, plainAsked, plainRowAsked, plainAskedBy, fileAsked, outputAsked, textAskedBy, textQuestion, batchAsked, questionOf, asked, fitting, Told}
 
 -- a word by what the scanner of a text found
 module _ (w s : List ℕ) (r : Found) (found : foundOf s r ≡ text w s) where
@@ -69,6 +69,10 @@ no-plain : isWord plain [] ≡ false
 unfolding text
 no-plain = refl
 
+no-margin : isWord margin [] ≡ false
+unfolding text
+no-margin = refl
+
 or-none : (b : Bool) → b ≡ (b || false)
 or-none true = refl
 or-none false = refl
@@ -110,7 +114,7 @@ module _ (room second : ℕ) (l : longestWord ≤ room) (k : longestWord ≤ sec
       → textAskedBy (suc (length (w ∷ ts))) (fitting room w) (instantOf (getD (w ∷ ts) 1 [])) (fitting second (getD (w ∷ ts) 1 [])) (instantOf (getD (w ∷ ts) 2 []))
       ≡ textQuestion w ts
   by-text w [] = by-output w
-  by-text w (t ∷ []) = ap (λ (b : Bool). cond b (rowAsked (instantOf t)) Asked.Usage) (in-its-room row no-row room (omega arith) w)
+  by-text w (t ∷ []) = rw (in-its-room row no-row room (omega arith) w, in-its-room margin no-margin room (omega arith) w)
   by-text w (t ∷ u ∷ []) = rw (in-its-room plain no-plain room (omega arith) w, in-its-room row no-row second (omega arith) t)
   by-text w (t ∷ u ∷ v ∷ rest) =
       let count : ℕ = suc (length (w ∷ t ∷ u ∷ v ∷ rest)) in

@@ -36,6 +36,9 @@ rewrite = bytes "rewrite"
 abbrev pub plain : List ℕ
 plain = bytes "plain"
 
+abbrev pub margin : List ℕ
+margin = bytes "margin"
+
 abbrev pub longestWord : ℕ
 longestWord = length salvage
 
@@ -76,10 +79,15 @@ rewriteAsked w = cond (isWord rewrite w) (Asked.Answer Rewrite) (plainAsked w)
 abbrev pub outputAsked : List ℕ → Asked
 outputAsked w = cond (isWord salvage w) Asked.Salvage (cond (isWord fixes w) Asked.Fixes (rewriteAsked w))
 
--- of one text: a word that stands alone; `row` and an instant, the row at it; `plain row` and an instant, that row by the plain engine
+-- by a word that a file's name follows: `margin` asks for the margins against the limits in the file
+abbrev pub fileAsked : List ℕ → Asked
+fileAsked w = cond (isWord margin w) Asked.Margin Asked.Usage
+
+-- of one text: a word that stands alone; `row` and an instant, the row at it; `margin` and a file; `plain row` and an instant, that row by the
+-- plain engine
 abbrev pub textQuestion : List ℕ → List (List ℕ) → Asked
 textQuestion w [] = outputAsked w
-textQuestion w (t ∷ []) = cond (isWord row w) (rowAsked (instantOf t)) Asked.Usage
+textQuestion w (t ∷ []) = cond (isWord row w) (rowAsked (instantOf t)) (fileAsked w)
 textQuestion w (t ∷ u ∷ []) = plainAskedBy w t (instantOf u)
 textQuestion w (t ∷ u ∷ v ∷ rest) = Asked.Usage
 
@@ -94,7 +102,7 @@ questionOf (w ∷ ts) = cond (isWord batch w) (cond (all? isNumber ts) Asked.Bat
 abbrev pub textAskedBy : ℕ → List ℕ → Instant → List ℕ → Instant → Asked
 textAskedBy count word instant second later =
     cond (eqb count 2) (outputAsked word)
-    (cond (eqb count 3) (cond (isWord row word) (rowAsked instant) Asked.Usage) (cond (eqb count 4) (plainAskedBy word second later) Asked.Usage))
+    (cond (eqb count 3) (cond (isWord row word) (rowAsked instant) (fileAsked word)) (cond (eqb count 4) (plainAskedBy word second later) Asked.Usage))
 
 abbrev pub asked : ℕ → List ℕ → Instant → List ℕ → Instant → Lengths → Asked
 asked count word instant second later lengths =

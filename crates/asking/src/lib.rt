@@ -1,5 +1,6 @@
 // What the program's arguments ask, as functions of their bytes.
 mod arguments;
+mod files;
 mod instants;
 mod lengths;
 mod outputs;

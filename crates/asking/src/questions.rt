@@ -1,4 +1,5 @@
 // The question that the arguments ask.
+use crate::files::file_asked;
 use crate::instants::Instant;
 use crate::lengths::Lengths;
 use crate::outputs::output_asked;
@@ -23,6 +24,8 @@ pub enum Asked {
     // what is left of a text, or the list of what was changed
     Salvage,
     Fixes,
+    // the margins against the limits in a file, which the second argument names
+    Margin,
     // several tables in one call; their lengths stand beside this
     Batch,
     Usage,
@@ -75,7 +78,7 @@ pub fn batch_asked(lengths: Lengths) -> Asked
     Asked::Batch
 }
 
-// Of one text: with a word alone, with a word and an instant, or with two words and an instant.
+// Of one text: with a word alone, with a word and an instant or a file, or with two words and an instant.
 pub fn text_asked_by(
     count: usize,
     word: &[u8],
@@ -92,7 +95,7 @@ pub fn text_asked_by(
         if is_row(word) {
             return row_asked(instant);
         }
-        return Asked::Usage;
+        return file_asked(word);
     }
     if count == 4 {
         return plain_asked_by(word, second, later);

@@ -311,6 +311,7 @@ keyCases =
     ∷ named "budget" 1 10000
     ∷ named "level" 1 4
     ∷ named "after" 1 15
+    ∷ named "limit" 0 2000000
     ∷ []
 
 -- the number, line and column of each refusal

@@ -1,5 +1,5 @@
--- The nine keys in the order in which they stand, each with its name and the limits of its number; of `after`, those of each number of
--- its list.
+-- The nine keys of a table in the order in which they stand, each with its name and the limits of its number; of `after`, those of each
+-- number of its list. Behind them the one key of a limit text (document 02, R-12).
 use mathlib.Core.List.{List, [], _∷_}
 use Prim.Native.Nat.{ℕ}
 use Prim.Native.String.{String}
@@ -26,6 +26,7 @@ keys =
     ∷ key "budget" Limits.budget
     ∷ key "level" Limits.level
     ∷ key "after" Limits.predecessor
+    ∷ key "limit" Limits.limit
     ∷ []
 
 -- what stands past the last one
@@ -62,3 +63,6 @@ level = 7
 
 abbrev pub after : ℕ
 after = 8
+
+abbrev pub limit : ℕ
+limit = 9

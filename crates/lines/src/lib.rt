@@ -5,13 +5,16 @@ mod reader;
 
 pub use judging::AFTER;
 pub use judging::BUDGET;
+pub use judging::LIMIT;
 pub use judging::NODES;
 pub use judging::PERIOD;
 pub use judging::PROCESSORS;
 pub use judging::is_within;
 pub use judging::value_column;
 pub use numbering::FIRST_COLUMN;
+pub use numbering::LineRead;
 pub use numbering::Place;
 pub use numbering::Three;
 pub use numbering::ThreeRead;
+pub use numbering::one_at;
 pub use numbering::three_at;

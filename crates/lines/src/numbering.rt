@@ -1,8 +1,9 @@
-// Lines with their numbers: where reading stands, the values of three lines, and the refusal of the first that is misspelled, outside its
+// Lines with their numbers: where reading stands, the values of a line and of three, and the refusal of the first that is misspelled, outside its
 // limits or against the predecessor rules, with its line and the column at fault.
 use crate::judging::AFTER;
 use crate::judging::Line;
 use crate::judging::ThreeLines;
+use crate::reader::line_at;
 use crate::reader::three_lines;
 use format::Refusal;
 ghost use mathlib.Core.Path.{_≡_};
@@ -10,7 +11,7 @@ ghost use Prim.Native.Nat.{_+_, _<_, _≤_, _^_};
 ghost use lib.ListN.{length, drop};
 ghost use Rattle.schedule.specs.Limits as Limits;
 ghost use Rattle.format.specs.Reading.{columnAt};
-ghost use Rattle.lines.specs.Numbered.{placeOf, unfairAt, numberedLine, threeNumbered, threeLines, threeReadOf};
+ghost use Rattle.lines.specs.Numbered.{placeOf, codedLine, lineReadOf, unfairAt, numberedLine, threeNumbered, threeLines, threeReadOf};
 
 // Where reading stands: the number of the next line, and its position.
 pub struct Place {
@@ -127,4 +128,14 @@ pub fn three_at(s: &[u8], place: Place, k: usize, own: u32) -> ThreeRead
     let at = place.at;
     let got = three_lines(s, at, k, own);
     three_numbered(s, got, place, k)
+}
+
+// The line of key k by itself, for a text whose lines do not stand by threes.
+pub fn one_at(s: &[u8], place: Place, k: usize) -> LineRead
+    requires { ⌜ (place .line + 1 < 2 ^ 32) × (length (now s) ≤ Limits.tableBytes .to) ⌝ }
+    ensures { λ r. ⌜ lineReadOf (now (s .entry)) r ≡ codedLine k 0 (placeOf (now (s .entry)) place) ⌝ }
+{
+    let at = place.at;
+    let got = line_at(s, at, k, 0);
+    numbered(s, got, place, k)
 }

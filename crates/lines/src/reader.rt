@@ -1,5 +1,6 @@
 // The line reader: it holds the lent table and a position, reads the line there, and stands behind it afterwards. Each of its functions
-// takes it apart or makes it, and calls a function on the slice and the numbers. All others call `three_lines`, whose parameters are plain.
+// takes it apart or makes it, and calls a function on the slice and the numbers. All others call `line_at` and `three_lines`, whose parameters
+// are plain.
 use crate::judging::Line;
 use crate::judging::ThreeLines;
 use crate::judging::line_from;
@@ -8,7 +9,7 @@ use crate::judging::three_of;
 ghost use mathlib.Core.Path.{_≡_};
 ghost use Prim.Native.Nat.{_+_, _<_, _^_};
 ghost use lib.ListN.{drop};
-ghost use Rattle.lines.specs.Lines.{lineJudged, judgedOf, after, ThreeJudged};
+ghost use Rattle.lines.specs.Lines.{lineJudged, judgedOf, after, JudgedAt, ThreeJudged};
 
 pub struct Lines<'a> {
     pub table: &'a [u8],
@@ -36,6 +37,14 @@ pub fn behind<'a>(l: Lines<'a>, read: Line) -> Lines<'a>
         table: l.table,
         at: past(read, l.at),
     }
+}
+
+// The line of key k at a position; of the key `after`, for node number own.
+pub fn line_at(s: &[u8], at: usize, k: usize, own: u32) -> Line
+    ensures { λ r. ⌜ JudgedAt k own (now (s .entry)) at r ⌝ }
+{
+    let start = lines_at(s, at);
+    line(start, k, own)
 }
 
 // The lines of key k and of the two keys behind it, one after another from a position on.

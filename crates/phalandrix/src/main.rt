@@ -1,7 +1,7 @@
 // The program: a table on standard input; on standard output its report or, with `row T`, its row at instant T, or, with `rewrite`, the table
 // read and written again. With `plain` and with `plain row T`, report and row by the plain engine. With `batch` and lengths, tables end to end
 // on standard input, and what is printed for each. With `salvage` the text is mended, and what is left is printed; with `fixes` the list of
-// what was changed.
+// what was changed. With `margin FILE` the margins against the limits in the file are printed.
 use asking::Asked;
 use asking::Instant;
 use asking::Lengths;
@@ -19,6 +19,8 @@ use inputs::take_tables;
 use libc::STDERR_FILENO;
 use libc::STDIN_FILENO;
 use libc::STDOUT_FILENO;
+use marginlines::MARGIN_BYTES;
+use marginprints::put_margin_to;
 use printing::SLOT;
 use printing::SLOTS;
 use printing::put_answer_to;
@@ -28,7 +30,7 @@ use printouts::put_fixes_to;
 use printouts::put_left_to;
 use salvage::LIST_BYTES;
 use table::Table;
-ghost use Prim.Native.Nat.{_≤_};
+ghost use Prim.Native.Nat.{_≤_, _<_};
 ghost use lib.ListN.{length};
 ghost use Rattle.schedule.specs.Limits as Limits;
 
@@ -48,9 +50,12 @@ enum Line {
 fn print_usage() {
     io::write_all(
         STDERR_FILENO,
-        b"usage: phalandrix < TABLE          the report\n       phalandrix row T < TABLE    the row at instant T\n       phalandrix batch L1 .. Ln < TABLES    the reports of tables end to end, of these lengths\n       phalandrix rewrite < TABLE  the table, read and written again\n       phalandrix plain < TABLE    the report, by the plain engine\n       phalandrix plain row T < TABLE    the row, by the plain engine\n       phalandrix salvage < TEXT   the text mended\n       phalandrix fixes < TEXT     what was mended\n",
+        b"usage: phalandrix < TABLE          the report\n       phalandrix row T < TABLE    the row at instant T\n       phalandrix batch L1 .. Ln < TABLES    the reports of tables end to end, of these lengths\n       phalandrix rewrite < TABLE  the table, read and written again\n       phalandrix plain < TABLE    the report, by the plain engine\n       phalandrix plain row T < TABLE    the row, by the plain engine\n       phalandrix salvage < TEXT   the text mended\n       phalandrix fixes < TEXT     what was mended\n       phalandrix margin FILE < TABLE    the margins against the limits in FILE\n",
     );
 }
+
+// Room for a limit text and one byte more: what is kept of a longer one is enough to refuse it.
+const LIMITS_ROOM: usize = Table::LIMIT_BYTES_TO as usize + 1;
 
 // A short write is carried on; one that fails is told.
 fn print(bytes: &[u8]) {
@@ -175,6 +180,63 @@ fn print_output(o: Output) {
     }
 }
 
+// Which text a refusal is of does not stand in what document 02 has printed.
+fn tell_text(in_limits: bool) {
+    if in_limits {
+        io::write_all(
+            STDERR_FILENO,
+            b"phalandrix: this refusal is of the limit text\n",
+        );
+    }
+}
+
+// The margins of the table on standard input.
+fn print_margin(limits: &[u8], m: usize)
+    requires { ⌜ (Limits.limitBytes .to < length (now limits)) × (m ≤ length (now limits)) ⌝ }
+{
+    let mut room = [0u8; SLOT];
+    let mut text = [0u8; MARGIN_BYTES];
+    match read_input(STDIN_FILENO, &mut room) {
+        Input::Failed => os::fail(b"standard input"),
+        Input::Bytes(n) => {
+            let printed = put_margin_to(&room, n, limits, m, &mut text);
+            tell_text(printed.in_limits);
+            let k = printed.length;
+            print(&text[..k]);
+        }
+    }
+}
+
+// The file with the limits, which argument 2 names, or below 0. One that cannot be opened is told. The room for its name is gone before the
+// others are there: all of them would else stand in the frame of `main`, under that of every walk.
+fn limits_opened() -> i32 {
+    let mut name = io::buffer();
+    let n = os::arg(2, &mut name);
+    if os::errno() == libc::ENAMETOOLONG {
+        os::fail(b"the limits");
+        return -1;
+    }
+    let fd = os::open_read(&name[..n]);
+    if fd < 0 {
+        os::fail(&name[..n]);
+    }
+    fd
+}
+
+// Where the limits cannot be read, that is told and nothing is printed.
+fn answer_margin() {
+    let fd = limits_opened();
+    if fd < 0 {
+        return;
+    }
+    let mut limits = [0u8; LIMITS_ROOM];
+    match read_input(fd, &mut limits) {
+        Input::Failed => os::fail(b"the limits"),
+        Input::Bytes(m) => print_margin(&limits, m),
+    }
+    libc::close(fd);
+}
+
 fn print_refusal(r: Refusal) {
     let mut text = io::buffer();
     let n = writing::refusal_length(r);
@@ -218,6 +280,7 @@ fn main() {
         Asked::Batch => answer_batch(lengths),
         Asked::Salvage => print_output(Output::Text),
         Asked::Fixes => print_output(Output::Fixes),
+        Asked::Margin => answer_margin(),
         Asked::Usage => print_usage(),
         Asked::Unread => os::fail(b"/proc/self/cmdline"),
     }

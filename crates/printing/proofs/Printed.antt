@@ -42,7 +42,7 @@ isText (Text n) = true
 isText (Refused r) = false
 
 module _ (before after : List ℕ) where
-  text-left : (n : ℕ) (r : Reply) → called (Text n) after ≡ left before r → Written (printed r) before after n
+  pub text-left : (n : ℕ) (r : Reply) → called (Text n) after ≡ left before r → Written (printed r) before after n
   unfolding left printed
   text-left n (says s) e = record { size = ap (λ (c : Call). toldIn (c .answer)) e; bytes = ap (λ (c : Call). c .buffer) e }
   text-left n (refuses r) e = absurd (subst T (ap (λ (c : Call). isText (c .answer)) e) tt)
@@ -53,13 +53,13 @@ module _ (before after : List ℕ) where
   text-bounded n m (refuses r) h e = absurd (subst T (ap (λ (c : Call). isText (c .answer)) e) tt)
 
   -- a refused call leaves the buffer as it was
-  refusal-left : (f : Refusal) (r : Reply) → called (Refused f) after ≡ left before r → (r ≡ refuses f) × (after ≡ before)
+  pub refusal-left : (f : Refusal) (r : Reply) → called (Refused f) after ≡ left before r → (r ≡ refuses f) × (after ≡ before)
   unfolding left
   refusal-left f (says s) e = absurd (subst T (ap (λ (c : Call). isText (c .answer)) (sym e)) tt)
   refusal-left f (refuses g) e = (ap (λ (c : Call). refuses (refusalIn (c .answer))) (sym e), ap (λ (c : Call). c .buffer) e)
 
 -- a text that fits is not refused as 10
-fits : (r : Reply) (n m : ℕ) → ((s : List ℕ) → r ≡ says s → length s ≤ m) → m ≤ n → fitted n r ≡ r
+pub fits : (r : Reply) (n m : ℕ) → ((s : List ℕ) → r ≡ says s → length s ≤ m) → m ≤ n → fitted n r ≡ r
 unfolding fitted
 fits (says s) n m h l = rw (le-leb (length s) n (omega (arith, h s refl)))
 fits (refuses r) n m h l = refl

@@ -157,7 +157,7 @@ ended-map a b (done Gs p) = last (p .bytes)
     last (c ∷ rest) = refl
 
 -- the code's test for more bytes
-module _ (m : Memory) (l p : ℕ) (s : List ℕ) where
+module _ {A : Type 0} (m : A) (l p : ℕ) (s : List ℕ) where
   pub ended-more : p < length s → ended m (record { line = l; bytes = drop p s }) (drop p s) ≡ refused (Misspelled l firstColumn)
   ended-more h = ap (λ (b : List ℕ). ended m (record { line = l; bytes = drop p s }) b) (next s p h)
 

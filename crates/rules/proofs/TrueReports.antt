@@ -21,7 +21,7 @@ use Rattle.theorems.proofs.TableBox.{length-sinks}
 use Rattle.theorems.proofs.LeastTrue.{figures-are-least-true}
 
 -- no refusal has the number 0
-number-some : (r : Refusal) → numberOf r ≡ 0 → ⊥
+pub number-some : (r : Refusal) → numberOf r ≡ 0 → ⊥
 number-some TooLong e = omega arith
 number-some (Misspelled l c) e = omega arith
 number-some (OutsideLimits l c) e = omega arith

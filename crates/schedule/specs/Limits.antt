@@ -45,6 +45,13 @@ hyperperiod = record { from = 1; to = 20000 }
 abbrev pub instant : Range
 instant = record { from = 0; to = 4000000000 }
 
+-- document 02, R-12: the bytes of a limit text, and the age limit of a graph
+abbrev pub limitBytes : Range
+limitBytes = record { from = 0; to = 4096 }
+
+abbrev pub limit : Range
+limit = record { from = 0; to = 2000000 }
+
 -- a predecessor's number, below that of a node
 abbrev pub predecessor : Range
 predecessor = record { from = 1; to = nodes .to - 1 }

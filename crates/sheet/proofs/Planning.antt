@@ -39,7 +39,7 @@ module _ (bytes : List ℕ) (p : Laid) (e : p ≡ plannedOf (codedAdmission (adm
   planned-refused f v = is-refused bytes a refl f (ap (λ (q : Laid). q .verdict) (sym e) ∙ v)
 
   module _ (v : p .verdict ≡ Passed) where
-    passed : Passes bytes a
+    pub passed : Passes bytes a
     passed = passes bytes a refl (ap (λ (q : Laid). q .verdict) (sym e) ∙ v)
 
     pub planned-walkable : Ready p
@@ -49,7 +49,7 @@ module _ (bytes : List ℕ) (p : Laid) (e : p ≡ plannedOf (codedAdmission (adm
     planned-few = rw e (passed-few bytes a passed)
 
     -- the walk of what was planned is that of the table
-    planned-walk : (w : Walk) (asked : ℕ) → w ≡ walkOf (p .plan) (p .offsets) (p .origin) (p .hyperperiod) (p .rounds) asked → w ≡ walkOfTable a asked
+    pub planned-walk : (w : Walk) (asked : ℕ) → w ≡ walkOf (p .plan) (p .offsets) (p .origin) (p .hyperperiod) (p .rounds) asked → w ≡ walkOfTable a asked
     unfolding walkOfTable
     planned-walk w asked q = q ∙ rw e
 

@@ -32,7 +32,8 @@ use Rattle.sheet.proofs.TableWalks.{X, M, a, walkable, few-graphs, tabl
 abbrev pub never : ℕ
 never = lastKey
 
-stop-of : (s : Stop) → stopOf (howOf s) ≡ s
+-- what the walk in memory tells of the stop is the rules' own
+pub stop-of : (s : Stop) → stopOf (howOf s) ≡ s
 stop-of (settled k) = refl
 stop-of unsettled = refl
 stop-of backlog = refl
@@ -45,7 +46,7 @@ module _ (bytes : List ℕ) (U : Table) (e : admissionOf bytes ≡ admitted U) w
   short = admitted-well-formed bytes U e .1
 
   -- the report's walk stops, and the instant it asks for is past every stop
-  at-stop : AtStop (X U ok short) (walkOfTable (a U ok short) never)
+  pub at-stop : AtStop (X U ok short) (walkOfTable (a U ok short) never)
   unfolding boundary
   at-stop =
       either-way (table-walked U ok short never) (λ s. s .1)

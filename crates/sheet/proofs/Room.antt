@@ -51,7 +51,7 @@ module _ (bytes : List ℕ) (U : Table) (e : admissionOf bytes ≡ admitted U) w
   unfolding boundary
   in-time = omega (arith, stops-in-time X need, last-boundary U (ok bytes U e) (short bytes U e))
 
-  round-early : (k : ℕ) → stop X .how ≡ settled k → k ≤ stop X .ticks
+  pub round-early : (k : ℕ) → stop X .how ≡ settled k → k ≤ stop X .ticks
   unfolding stopAt stopWith roundAt
   round-early k h =
       let t = stop X .ticks in
@@ -63,11 +63,11 @@ module _ (bytes : List ℕ) (U : Table) (e : admissionOf bytes ≡ admitted U) w
       round-of (atBoundary X need t && same) (eqb t (boundary X need (X .rounds))) (backlogged (X .servers) need σ ls t (X .sinks)) k (roundAt X need t) s in
       omega (arith, is, div-le-self (t - X .origin) (X .hyper))
 
-  figures-small : (k : ℕ) → stop X .how ≡ settled k → (g : ℕ) → g < length (U .graphs) → getD (figures X need (stop X .ticks)) g 0 ≤ stop X .ticks
+  pub figures-small : (k : ℕ) → stop X .how ≡ settled k → (g : ℕ) → g < length (U .graphs) → getD (figures X need (stop X .ticks)) g 0 ≤ stop X .ticks
   unfolding walked
   figures-small k h g l = let (j, takes) = figures-are-least-true U (ok bytes U e) k h g l .attained in omega (arith, takes .by)
 
-  many-figures : length (figures X need (stop X .ticks)) ≡ length (U .graphs)
+  pub many-figures : length (figures X need (stop X .ticks)) ≡ length (U .graphs)
   unfolding figures
   many-figures = length-map (X .sinks) _ ∙ length-sinks 0 (U .graphs)
 

@@ -15,7 +15,7 @@ use Rattle.looking.proofs.RowNumbers.{Each, Entry, each-under}
 abbrev pub Small : ℕ → Type 0
 Small v = v < 10 ^ mostDigits
 
-line-short : (name : String) (v : ℕ) → Small v → length (answerLine name v) ≤ longestLine (bytes name)
+pub line-short : (name : String) (v : ℕ) → Small v → length (answerLine name v) ≤ longestLine (bytes name)
 unfolding answerLine
 line-short name v h =
     omega (

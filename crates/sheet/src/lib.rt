@@ -12,6 +12,8 @@ pub use exports::phalandrix_row;
 pub use exports::told;
 pub use exports::told_row;
 pub use figures::figures_of;
+pub use plans::Laid;
+pub use plans::planned;
 pub use reporting::put_settled;
 pub use reporting::report;
 pub use rowing::put_row;

@@ -25,4 +25,6 @@ limits =
       pending = Rules.pending;
       unfinished = Rules.unfinished;
       tables = coded Rules.tables;
+      «limit_bytes» = coded Rules.limitBytes;
+      limit = coded Rules.limit;
     }

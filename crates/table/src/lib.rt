@@ -1,4 +1,4 @@
-// The table in memory, with every limit of documents 01 and 02 as an associated constant; the nine keys; the windows that a walk keeps, with
+// The table in memory, with every limit of documents 01 and 02 as an associated constant; the keys; the windows that a walk keeps, with
 // the functions that make an empty server and the fresh state.
 ghost use mathlib.Core.Path.{_≡_};
 ghost use Rattle.format.specs.Keys.{keyAt};
@@ -29,6 +29,8 @@ pub struct Limits {
     pub pending: u32,
     pub unfinished: u32,
     pub tables: Range,
+    pub limit_bytes: Range,
+    pub limit: Range,
 }
 
 // A key: its name, filled up with zeros, the name's length, and the limits of its number (of `after`, of each number of its list).
@@ -168,6 +170,14 @@ impl Table {
 
     pub const TABLES_TO: u32 = 16;
 
+    pub const LIMIT_BYTES_FROM: u32 = 0;
+
+    pub const LIMIT_BYTES_TO: u32 = 4_096;
+
+    pub const LIMIT_FROM: u32 = 0;
+
+    pub const LIMIT_TO: u32 = 2_000_000;
+
     // The limits as lengths of arrays.
     pub const GRAPHS: usize = Table::GRAPHS_TO as usize;
 
@@ -184,10 +194,10 @@ impl Table {
     // No server job has this key.
     pub const NO_KEY: u32 = u32::MAX;
 
-    // The nine keys in the order in which they stand.
+    // The nine keys in the order in which they stand, and behind them that of a limit text (document 02, R-12).
     pub const NAME_LENGTH: usize = 10;
 
-    pub const KEY_COUNT: usize = 9;
+    pub const KEY_COUNT: usize = 10;
 
     const KEYS: [Key; Table::KEY_COUNT] = [
         Key {
@@ -262,6 +272,14 @@ impl Table {
                 to: Table::PREDECESSOR_TO,
             },
         },
+        Key {
+            name: *b"limit\0\0\0\0\0",
+            length: 5,
+            range: Range {
+                from: Table::LIMIT_FROM,
+                to: Table::LIMIT_TO,
+            },
+        },
     ];
 
     // Every limit, for the proof that the constants are the rules' own.
@@ -327,6 +345,14 @@ impl Table {
                 from: Table::TABLES_FROM,
                 to: Table::TABLES_TO,
             },
+            limit_bytes: Range {
+                from: Table::LIMIT_BYTES_FROM,
+                to: Table::LIMIT_BYTES_TO,
+            },
+            limit: Range {
+                from: Table::LIMIT_FROM,
+                to: Table::LIMIT_TO,
+            },
         }
     }
 
@@ -346,6 +372,7 @@ impl Table {
             6 => keys[6],
             7 => keys[7],
             8 => keys[8],
+            9 => keys[9],
             _ => Key {
                 name: [0u8; Table::NAME_LENGTH],
                 length: 0,

@@ -6,6 +6,7 @@ mod refusal;
 mod report;
 mod row;
 
+pub use line::line_length;
 pub use line::put_bytes;
 pub use line::put_ended;
 pub use line::put_line;

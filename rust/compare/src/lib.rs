@@ -5,6 +5,7 @@
 //! - `check`: all the calls made on one table;
 //! - `batches`: calls on several tables;
 //! - `mending`: the calls of salvage on one spoiled text;
+//! - `margins`: the margins of one table against limit texts;
 //! - `writer`: tables in memory, read and written;
 //! - `shrink`, `loose`: a smaller table with the same difference;
 //! - `run`: the tables of a range of seeds, on several threads;
@@ -17,6 +18,7 @@ pub mod call;
 pub mod check;
 pub mod library;
 pub mod loose;
+pub mod margins;
 pub mod mending;
 pub mod options;
 pub mod outcomes;

@@ -28,6 +28,12 @@ pub trait Library: Sync {
         None
     }
 
+    /// The margins against a limit text, and whether a refusal is of that text; none where the library has no
+    /// such call.
+    fn margin(&self, _table: &[u8], _limits: &[u8], _buffer: &mut [u8]) -> Option<(Answer, bool)> {
+        None
+    }
+
     /// A table in memory, written; none where the library has no such call.
     fn write(&self, _memory: &Memory, _buffer: &mut [u8]) -> Option<Answer> {
         None
@@ -141,6 +147,13 @@ impl Library for Proved {
         }
         assert_eq!(memory, Memory::default(), "a refused table leaves nothing in memory");
         Some(Err(Refusal { number, line, column }))
+    }
+
+    fn margin(&self, table: &[u8], limits: &[u8], buffer: &mut [u8]) -> Option<(Answer, bool)> {
+        let phalandrix::MarginAnswer { number, line, column, in_limits, length } =
+            phalandrix::margin(table, limits, buffer);
+        assert!(in_limits <= 1, "in_limits is 0 or 1");
+        Some((Answer { number, line, column, length }, in_limits == 1))
     }
 
     fn write(&self, memory: &Memory, buffer: &mut [u8]) -> Option<Answer> {

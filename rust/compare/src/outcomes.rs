@@ -1,5 +1,6 @@
 //! What has come up in a run, and what has not: a run that never met an outcome shows nothing of it.
 
+use crate::margins::Margins;
 use crate::mending::Mendings;
 use crate::writer::Seen;
 use simulator::demand3::Looked;
@@ -41,6 +42,8 @@ pub struct Outcomes {
     pub mendings: Mendings,
     /// Tables in memory, read and written.
     pub memory: Seen,
+    /// Margins against limit texts.
+    pub margins: Margins,
 }
 
 impl Outcomes {
@@ -71,7 +74,7 @@ impl Outcomes {
             all.push(("a start after an earlier job".into(), self.overlap.starts));
         }
         let missing = all.into_iter().filter(|(_, count)| *count == 0).map(|(outcome, _)| outcome);
-        missing.chain(self.memory.missing()).collect()
+        missing.chain(self.memory.missing()).chain(self.margins.missing()).collect()
     }
 }
 
@@ -89,6 +92,7 @@ impl AddAssign<&Outcomes> for Outcomes {
         self.overlap += other.overlap;
         self.mendings += &other.mendings;
         self.memory += &other.memory;
+        self.margins += &other.margins;
     }
 }
 
@@ -115,6 +119,7 @@ impl fmt::Display for Outcomes {
             self.overlap.overlaps, self.overlap.starts
         )?;
         write!(out, "; {}", self.mendings)?;
-        write!(out, "; {}", self.memory)
+        write!(out, "; {}", self.memory)?;
+        write!(out, "; {}", self.margins)
     }
 }

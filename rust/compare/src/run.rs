@@ -4,6 +4,7 @@ use crate::batches::{check_batch, numbers};
 use crate::call::Difference;
 use crate::check::{Checked, Effort, check};
 use crate::library::Library;
+use crate::margins;
 use crate::mending::{self, Mendings};
 use crate::options::Options;
 use crate::outcomes::Outcomes;
@@ -28,6 +29,7 @@ pub enum Fault {
     Demand3 { seed: u64, table: Vec<u8>, what: String },
     Overlap { seed: u64, table: Vec<u8>, what: String },
     Memory { seed: u64, table: Vec<u8>, what: String },
+    Margin { seed: u64, table: Vec<u8>, what: String },
 }
 
 /// Every so many seeds a call on several tables is made.
@@ -93,6 +95,8 @@ fn run_seed(library: &dyn Library, seed: u64, by_force: bool, outcomes: &mut Out
     }
     let in_memory = writer::check(library, &table, &mut rng_for(seed));
     outcomes.memory += &in_memory.map_err(|what| Fault::Memory { seed, table: table.clone(), what })?;
+    let against = margins::check(library, &table, &report, &mut rng_for(seed));
+    outcomes.margins += &against.map_err(|what| Fault::Margin { seed, table: table.clone(), what })?;
     if by_force {
         outcomes.looked(force(seed, &table)?);
         outcomes.overlap += force_overlap(seed, &table)?;
@@ -186,7 +190,8 @@ impl Fault {
             | Fault::Batch { seed, .. }
             | Fault::Demand3 { seed, .. }
             | Fault::Overlap { seed, .. }
-            | Fault::Memory { seed, .. } => *seed,
+            | Fault::Memory { seed, .. }
+            | Fault::Margin { seed, .. } => *seed,
         }
     }
 }
@@ -213,6 +218,9 @@ impl fmt::Display for Fault {
             }
             Fault::Memory { seed, table, what } => {
                 write!(out, "seed {seed} differs in memory: {what}\n{}", shown(table))
+            }
+            Fault::Margin { seed, table, what } => {
+                write!(out, "seed {seed} differs: {what}\n{}", shown(table))
             }
         }
     }

@@ -7,10 +7,12 @@
 //! - `limits`: tables at a limit or one past it;
 //! - `damage`: texts that are no tables any more;
 //! - `spoil`: tables that other editors spoiled;
+//! - `ages`: limit texts for a table, in order or damaged;
 //! - `make`: the table of a seed, of any kind;
 //! - `batches`: several tables with their lengths, or wrong ones.
 #![forbid(unsafe_code)]
 
+pub mod ages;
 pub mod batches;
 pub mod damage;
 pub mod fill;
@@ -21,6 +23,7 @@ pub mod rng;
 pub mod shapes;
 pub mod spoil;
 
+pub use ages::limit_text;
 pub use batches::{Batch, make_batch};
 pub use kinds::Kind;
 pub use make::{Made, make};

@@ -1,6 +1,6 @@
 //! The plain calls.
 //!
-//! The only `unsafe` of the package is here and in `salvage`: the library's functions themselves. Each is
+//! The only `unsafe` of the package is here, in `margins` and in `salvage`: the library's functions themselves. Each is
 //! passed pointer and length of a slice, which the slice keeps alive and, for the buffer, alone for the
 //! whole call; the library reads no byte outside the table and writes none outside the buffer.
 

@@ -36,6 +36,7 @@
 //! ```
 //!
 //! - `calls`: the plain calls;
+//! - `margins`: the report against the age limit of each graph;
 //! - `salvage`: a text that another editor spoiled, mended;
 //! - `refusal`: the refusals, with the list made from the C header;
 //! - `tables`: a table in memory, read and written;
@@ -44,6 +45,7 @@
 #![deny(unsafe_op_in_unsafe_fn, clippy::undocumented_unsafe_blocks, missing_docs)]
 
 mod calls;
+mod margins;
 mod refusal;
 mod reports;
 mod rows;
@@ -52,9 +54,10 @@ mod tables;
 mod text;
 
 pub use calls::{Answer, BatchAnswer, RowAnswer, batch, plain_report, plain_row, report, row, shares};
+pub use margins::{MarginAnswer, MarginRefusal, Margins, margin, margins_of};
 pub use refusal::{
-    FIXES_BYTES, InTable, PLAIN_STACK_BYTES, REPORT_BYTES, ROW_BYTES, Reason, Refusal, SALVAGE_BYTES,
-    STACK_BYTES, TABLES, VERSION, WRITTEN_BYTES,
+    FIXES_BYTES, InTable, MARGIN_BYTES, PLAIN_STACK_BYTES, REPORT_BYTES, ROW_BYTES, Reason, Refusal,
+    SALVAGE_BYTES, STACK_BYTES, TABLES, VERSION, WRITTEN_BYTES,
 };
 pub use reports::{Report, report_of};
 pub use rows::{Row, Run, row_at};

@@ -13,6 +13,7 @@
 //! - `reply`, `text`: answers, refusals and the lent buffer;
 //! - `question`: the two calls on one table; `batch`: several tables in one call;
 //! - `far`: rows past the stop;
+//! - `margin`: R-12, the margins against a text of limits;
 //! - `salvage`: R-5, from document 02 alone;
 //! - `demand3`: the figure checked by force;
 //! - `overlap`: R-8 checked by force.
@@ -24,6 +25,7 @@ pub mod far;
 pub mod history;
 pub mod limits;
 pub mod load;
+pub mod margin;
 pub mod memory;
 pub mod overlap;
 pub mod question;
@@ -37,6 +39,7 @@ pub mod text;
 pub mod walk;
 
 pub use batch::{Batch, batch};
+pub use margin::{Margin, margin};
 pub use memory::Memory;
 pub use question::{report, row};
 pub use reply::{Answer, Refusal, Reply, lend};

@@ -25,6 +25,10 @@ pub const ALL_NODES: u32 = 32;
 pub const LEVEL: Limit = Limit { from: 1, to: 4 };
 pub const HYPERPERIOD: u32 = 20_000;
 
+/// The bytes of a limit text, and the age limit of a graph.
+pub const LIMIT_BYTES: usize = 4096;
+pub const LIMIT: Limit = Limit { from: 0, to: 2_000_000 };
+
 /// Tables of one call.
 pub const TABLES: Limit = Limit { from: 1, to: 16 };
 

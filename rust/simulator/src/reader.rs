@@ -24,6 +24,18 @@ pub fn read(bytes: &[u8]) -> Result<Table, Refusal> {
     Ok(Table { processors, rounds, graphs })
 }
 
+/// The limits that these bytes spell, one `limit=` line for each of `graphs` graphs; or the first refusal
+/// among 1 to 3, with its line and column in this text.
+pub fn read_limits(bytes: &[u8], graphs: usize) -> Result<Vec<u32>, Refusal> {
+    if bytes.len() > limits::LIMIT_BYTES {
+        return Err(Refusal { number: 1, line: 0, column: 0 });
+    }
+    let mut lines = Lines { rest: bytes, line: 0 };
+    let ages = (0..graphs).map(|_| lines.number("limit", limits::LIMIT)).collect::<Result<_, _>>()?;
+    lines.end()?;
+    Ok(ages)
+}
+
 fn read_graph(lines: &mut Lines, node_total: &mut u32) -> Result<Graph, Refusal> {
     let period = lines.number("period", limits::PERIOD)?;
     let offset = lines.number("offset", limits::OFFSET)?;

@@ -1,11 +1,12 @@
 //! The tables that stand in `tables/` at the repository's root, each with its
 //! answer beside it: `NAME.answer` is the report of `NAME.table`,
 //! `NAME.row-T.answer` its row at instant T, `NAME.salvage.answer` what salvage
-//! leaves of it, and `NAME.fixes.answer` the list. `FOLDER.batch.answer` is what
-//! is printed for the tables of a folder in one call.
+//! leaves of it, and `NAME.fixes.answer` the list. `NAME.CASE.margin.answer` are
+//! its margins against `NAME.CASE.limits`. `FOLDER.batch.answer` is what is
+//! printed for the tables of a folder in one call.
 
 use simulator::salvage::{Mended, salvage};
-use simulator::{Answer, Reply, batch, report, row};
+use simulator::{Answer, Reply, batch, margin, report, row};
 use std::fs;
 use std::path::Path;
 
@@ -73,6 +74,10 @@ fn every_table_has_the_answer_beside_it() {
             }
             "salvage" => output(&table, |mended| mended.text),
             "fixes" => output(&table, |mended| mended.list),
+            question if question.ends_with(".margin") => {
+                let case = question.trim_end_matches(".margin");
+                margin(&table, &read(&format!("{name}.{case}.limits"))).reply
+            }
             question => {
                 let instant = question.strip_prefix("row-").expect("a row");
                 row(&table, instant.parse().expect("an instant"))

@@ -21,8 +21,12 @@ returns-2 : tie.Need-returns-2
 returns-2 c =
     rw (c .before .before .before .if2 .taken, sym (c .before .before .is-row .ensures) ∙ c .before .if3 .taken) (c .row-asked .ensures)
 
+file-asked-requires : tie.Need-file-asked-requires
+file-asked-requires c κs = search needs
+
 returns-3 : tie.Need-returns-3
-returns-3 c = rw (c .before .before .if2 .taken, sym (c .before .is-row .ensures) ∙ c .if3 .left)
+returns-3 c =
+    rw (c .before .before .before .if2 .taken, sym (c .before .before .is-row .ensures) ∙ c .before .if3 .left) (c .file-asked .ensures)
 
 plain-asked-by-requires : tie.Need-plain-asked-by-requires
 plain-asked-by-requires c κs = search needs
@@ -44,6 +48,7 @@ text-asked-by-spec =
     is-row-requires
     row-asked-requires
     returns-2
+    file-asked-requires
     returns-3
     plain-asked-by-requires
     returns-4

@@ -40,6 +40,9 @@ array-copy-out-result-8 c = search needs
 array-copy-out-result-9 : tie.Need-array-copy-out-result-9
 array-copy-out-result-9 c = search needs
 
+array-copy-out-result-10 : tie.Need-array-copy-out-result-10
+array-copy-out-result-10 c = search needs
+
 returns : tie.Need-returns
 unfolding keys
 returns c = rw (c .before .match .keys1)
@@ -78,11 +81,15 @@ returns-9 c = rw (c .before .match .keys9)
 
 returns-10 : tie.Need-returns-10
 unfolding keys
-returns-10 c =
+returns-10 c = rw (c .before .match .keys10)
+
+returns-11 : tie.Need-returns-11
+unfolding keys
+returns-11 c =
     let k = c .before .args .k in
     let h = c .match .rest in
     let past : length keys ≤ k =
-    next 8 k (next 7 k (next 6 k (next 5 k (next 4 k (next 3 k (next 2 k (next 1 k (next 0 k (omega arith) (h .0 .0 .0 .0 .0 .0 .0 .0 .1)) (h .0 .0 .0 .0 .0 .0 .0 .1)) (h .0 .0 .0 .0 .0 .0 .1)) (h .0 .0 .0 .0 .0 .1)) (h .0 .0 .0 .0 .1)) (h .0 .0 .0 .1)) (h .0 .0 .1)) (h .0 .1)) (h .1) in
+    next 9 k (next 8 k (next 7 k (next 6 k (next 5 k (next 4 k (next 3 k (next 2 k (next 1 k (next 0 k (omega arith) (h .0 .0 .0 .0 .0 .0 .0 .0 .0 .1)) (h .0 .0 .0 .0 .0 .0 .0 .0 .1)) (h .0 .0 .0 .0 .0 .0 .0 .1)) (h .0 .0 .0 .0 .0 .0 .1)) (h .0 .0 .0 .0 .0 .1)) (h .0 .0 .0 .0 .1)) (h .0 .0 .0 .1)) (h .0 .0 .1)) (h .0 .1)) (h .1) in
     rw (List·getD-eq-default keys noKey past)
 
 pub key-spec : {M : Type 1} → statement M
@@ -98,6 +105,7 @@ key-spec =
     array-copy-out-result-7
     array-copy-out-result-8
     array-copy-out-result-9
+    array-copy-out-result-10
     returns
     returns-2
     returns-3
@@ -107,4 +115,5 @@ key-spec =
     returns-7
     returns-8
     returns-9
-    returns-10)
+    returns-10
+    returns-11)

@@ -1,0 +1,4 @@
+pub mod Planning
+pub mod Laws
+pub mod Room
+pub mod Unique

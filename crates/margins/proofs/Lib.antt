@@ -1,0 +1,4 @@
+pub mod Cases
+pub mod Printed
+pub mod TrueMargins
+pub mod CutTexts
