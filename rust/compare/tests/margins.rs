@@ -21,7 +21,7 @@ impl Library for Faulty {
         Plain(Pace::Event).report(table, buffer)
     }
 
-    fn row(&self, table: &[u8], instant: u64, buffer: &mut [u8]) -> Answer {
+    fn row(&self, table: &[u8], instant: u64, buffer: &mut [u8]) -> (Answer, u32) {
         Plain(Pace::Event).row(table, instant, buffer)
     }
 
