@@ -92,7 +92,7 @@ enum {
     PHALANDRIX_REPORT_BYTES = 212,
     PHALANDRIX_ROW_BYTES = 384,
     /* The same for the text of a table that is written. */
-    PHALANDRIX_WRITTEN_BYTES = 2616,
+    PHALANDRIX_WRITTEN_BYTES = 3007,
     /* The length of the longest text that a salvage leaves, and of its longest list. A salvage whose
      * buffers are that long is never refused as PHALANDRIX_SHORT_BUFFER; this is proved. */
     PHALANDRIX_SALVAGE_BYTES = 4096,
@@ -107,10 +107,11 @@ enum {
 };
 
 /* A table in memory, for an editor: plain numbers, and any content may be passed to
- * phalandrix_write. Bit p - 1 of a node's `after` is set for each predecessor p. The first `graphs` of
- * `graph` are the table's. Their nodes stand one behind the other in `node`, graph after graph, from
- * its start on: a graph's first node is found by counting those of the graphs before it. What stands
- * past the counts is not looked at. */
+ * phalandrix_write. `form` is 1 for the old form, 2 for the one with points; a table of the old form is
+ * read with the period for each point, and written without points. Bit p - 1 of a node's `after` is
+ * set for each predecessor p. The first `graphs` of `graph` are the table's. Their nodes stand one
+ * behind the other in `node`, graph after graph, from its start on: a graph's first node is found by
+ * counting those of the graphs before it. What stands past the counts is not looked at. */
 enum {
     PHALANDRIX_GRAPHS = 8,
     PHALANDRIX_NODES = 32
@@ -119,6 +120,7 @@ enum {
 typedef struct phalandrix_node {
     uint32_t budget;
     uint32_t level;
+    uint32_t point;
     uint32_t after;
 } phalandrix_node;
 
@@ -129,6 +131,7 @@ typedef struct phalandrix_graph {
 } phalandrix_graph;
 
 typedef struct phalandrix_table {
+    uint32_t form;
     uint32_t processors;
     uint32_t rounds;
     uint32_t graphs;

@@ -8,6 +8,9 @@
 static const char chain[] =
     "processors=1\nrounds=2\ngraphs=1\nperiod=4\noffset=0\nnodes=2\n"
     "budget=1\nlevel=1\nafter=none\nbudget=1\nlevel=1\nafter=1\n";
+static const char *pointed =
+    "form=2\nprocessors=1\nrounds=2\ngraphs=1\nperiod=4\noffset=0\nnodes=2\n"
+    "budget=1\nlevel=1\npoint=4\nafter=none\nbudget=1\nlevel=1\npoint=0\nafter=1\n";
 
 enum { ROOM = PHALANDRIX_WRITTEN_BYTES + 8, UNTOUCHED = 0xA5, LONGEST_TABLE = 5000 };
 
@@ -82,10 +85,11 @@ int main(int count, char **names)
     size_t n = strlen(chain);
     int legal = 0;
 
-    expect_that("the layout", sizeof(phalandrix_table) == 4 * (3 + 3 * PHALANDRIX_GRAPHS + 3 * PHALANDRIX_NODES));
+    expect_that("the layout", sizeof(phalandrix_table) == 4 * (4 + 3 * PHALANDRIX_GRAPHS + 4 * PHALANDRIX_NODES));
     expect_that("a legal table", got.number == 0 && t.processors == 1 && t.rounds == 2 && t.graphs == 1);
     expect_that("its graph", t.graph[0].period == 4 && t.graph[0].offset == 0 && t.graph[0].nodes == 2);
     expect_that("its nodes", t.node[0].after == 0 && t.node[1].budget == 1 && t.node[1].level == 1 && t.node[1].after == 1);
+    expect_that("its form and points", t.form == 1 && t.node[0].point == 4 && t.node[1].point == 4);
     expect_that("past its counts", t.graph[1].period == 0 && t.node[2].budget == 0);
     expect("written", t, ROOM, 0, 0, chain, n);
     expect("written where it just fits", t, n, 0, 0, chain, n);
@@ -97,6 +101,18 @@ int main(int count, char **names)
 
     u = t, u.processors = 9, u.rounds = 0;
     expect_refused("too many processors", u, PHALANDRIX_OUTSIDE_LIMITS, 1);
+    u = t, u.node[0].point = UINT32_MAX;
+    expect("a point that its form has no line for", u, ROOM, 0, 0, chain, n);
+    u = t, u.form = 2, u.node[1].point = 0;
+    expect("a table with points", u, ROOM, 0, 0, pointed, strlen(pointed));
+    got = read_of(pointed);
+    expect_that("and read back", got.number == 0 && memcmp(&got.table, &u, sizeof u) == 0);
+    u.node[1].point = 20001;
+    expect_refused("a point past its limit", u, PHALANDRIX_OUTSIDE_LIMITS, 14);
+    u = t, u.form = 0;
+    expect_refused("no form", u, PHALANDRIX_OUTSIDE_LIMITS, 1);
+    u = t, u.form = 3, u.processors = 9;
+    expect_refused("another form", u, PHALANDRIX_OUTSIDE_LIMITS, 1);
     u = t, u.graphs = UINT32_MAX;
     expect_refused("a count past its array", u, PHALANDRIX_OUTSIDE_LIMITS, 3);
     u = t, u.graph[0].nodes = UINT32_MAX;

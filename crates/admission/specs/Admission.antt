@@ -19,7 +19,7 @@ use Rattle.admission.specs.Loads.{hyperperiodWithin, roomAfter, graphsLo
 
 -- a refusal has one fixed content
 abbrev pub codedRefusal : Refusal → Admitted
-codedRefusal r = record { table = emptyTable 0 0; hyperperiod = 0; verdict = Verdict.Refused r }
+codedRefusal r = record { table = emptyTable 0 0 0; hyperperiod = 0; verdict = Verdict.Refused r }
 
 abbrev pub codedAdmission : Admission → Admitted
 codedAdmission (refused r) = codedRefusal r

@@ -30,7 +30,7 @@ pub fn refused(f: Refusal) -> Admitted
     ensures { λ r. ⌜ r ≡ codedRefusal f ⌝ }
 {
     Admitted {
-        table: Table::empty(0, 0),
+        table: Table::empty(0, 0, 0),
         hyperperiod: 0,
         verdict: Verdict::Refused(f),
     }

@@ -43,6 +43,7 @@ pub fn node_of(t: Table, first: usize, k: usize) -> Node
     Node {
         budget: 0,
         level: 0,
+        point: 0,
         after: 0,
     }
 }

@@ -30,7 +30,7 @@ pub fn limits_from(s: &[u8], n: usize) -> LimitsRead
     let mut p = Place { line: 1, at: 0 };
     let mut g: usize = 0;
     while g < n {
-        match one_at(s, p, LIMIT) {
+        match one_at(s, p, LIMIT, 0) {
             LineRead::Refused(f) => {
                 return LimitsRead {
                     limits,

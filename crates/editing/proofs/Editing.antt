@@ -4,7 +4,7 @@ use mathlib.Core.Bool.{true}
 use mathlib.Core.List.{List}
 use Prim.Native.Nat.{ℕ, _≤_}
 use native.Mathlib.Omega.{arith}
-use lib.ListN.{length, take, drop, length-append}
+use lib.ListN.{length, length-map, take, drop, length-append}
 use lib.Seq.{take-at}
 use Rattle.schedule.specs.Limits as Limits
 use Rattle.schedule.specs.Table as Rules
@@ -18,6 +18,8 @@ use Rattle.writer.specs.Writing.{writtenOf}
 use Rattle.writer.specs.Judging.{Judgement, passes, fails, tableAt, written, writeOf}
 use Rattle.writer.specs.Lengths.{longestWritten}
 use Rattle.writer.proofs.WrittenLength.{written-within, longest-is}
+use Rattle.writer.specs.Settled.{settledGraph, settled}
+use Rattle.writer.proofs.Settling.{settled-nodes, settled-text}
 use Rattle.writer.proofs.ReadWritten.{read-written}
 use Rattle.writer.proofs.WriterAnswers.{formed-written, write-formed}
 use Rattle.memory.specs.declared.plain.PhalandrixTable.{PhalandrixTable}
@@ -56,24 +58,30 @@ module _ (U : Rules.Table) where
   unfolding writeOf
   judged-written e = passed-by (writtenOf U) (tableAt U 1) e
 
-  pub judged-formed : Passes ≡ judgedOf (tableAt U 1) → wellFormed U ≡ true
+  pub judged-formed : Passes ≡ judgedOf (tableAt U 1) → wellFormed (settled U) ≡ true
   judged-formed e = write-formed U (writtenOf U) (sym (judged-written e)) .0
 
--- what the writer needs of a well-formed table in memory
-module _ (t : PhalandrixTable) (e : wellFormed (tableIn t) ≡ true) where
+-- what the writer needs of a table in memory that is well-formed once it is settled
+module _ (t : PhalandrixTable) (e : wellFormed (settled (tableIn t)) ≡ true) where
   pub few-graphs : t .graphs ≤ Limits.graphs .to
   few-graphs =
       omega (
         arith,
-        within-limits Limits.graphs (length (tableIn t .graphs)) (table-formed (tableIn t) e .few) .1,
+        within-limits Limits.graphs (length (settled (tableIn t) .graphs)) (table-formed (settled (tableIn t)) e .few) .1,
+        length-map (tableIn t .graphs) (settledGraph (t .form)),
         graphs-counted (t .graph) (t .node) 0 0 (t .graphs),
       )
 
   pub few-nodes : nodesIn (graphsIn (t .graph) (t .node) 0 0 (t .graphs)) ≤ Limits.allNodes .to
-  few-nodes = within-limits Limits.allNodes (nodesIn (tableIn t .graphs)) (table-formed (tableIn t) e .nodes) .1
+  few-nodes =
+      omega (
+        arith,
+        within-limits Limits.allNodes (nodesIn (settled (tableIn t) .graphs)) (table-formed (settled (tableIn t)) e .nodes) .1,
+        settled-nodes (t .form) (tableIn t .graphs),
+      )
 
-  pub text-within : length (writtenOf (tableIn t)) ≤ 2616
-  text-within = omega (arith, written-within (tableIn t) e, longest-is)
+  pub text-within : length (writtenOf (tableIn t)) ≤ 3007
+  text-within = omega (arith, written-within (settled (tableIn t)) e, longest-is, ap length (settled-text (tableIn t)))
 
 -- a legal table, read and written again, is its own bytes
 pub rewrite-same : (s : List ℕ) (T : Rules.Table) (p : Place) → readOf s ≡ done T p → rewriteOf s ≡ says s
@@ -97,7 +105,7 @@ rewrite-refuses (refused r) f h = inner h
 rewrite-refuses (done T p) f h = absurd (let z : _≡_ {A = ℕ} 0 1 = cc in omega arith)
 
 -- what reading came to, as it is returned
-pub read-failed : (x : Outcome Rules.Table) (f : Refusal) (t : PhalandrixTable) → x ≡ refused f → t ≡ plainOf (emptyTable 0 0)
+pub read-failed : (x : Outcome Rules.Table) (f : Refusal) (t : PhalandrixTable) → x ≡ refused f → t ≡ plainOf (emptyTable 0 0 0)
     → record { table = t; judged = Refused f } ≡ readTable x
 read-failed x f t e g = rw (e, g) refl
 

@@ -26,7 +26,7 @@ use Rattle.scanning.specs.Masks.{maskOf, listOf}
 use Rattle.scanning.proofs.MaskBits.{orderly-fits, mask-bit}
 use Rattle.scanning.proofs.Members.{list-of-mask}
 use Rattle.reading.specs.Memory.{codedNode, filled, withGraph, withGraphs, memoryOf}
-use Rattle.reading.proofs.MemoryLaws.{sets-before, graph-stays, node-stays, graphs-counted, processors-stay, rounds-stay}
+use Rattle.reading.proofs.MemoryLaws.{sets-before, graph-stays, node-stays, graphs-counted, form-stays, processors-stay, rounds-stay}
 use Rattle.window.specs.Loops.{replaced}
 use Rattle.memory.specs.declared.plain.PhalandrixGraph.{PhalandrixGraph}
 use Rattle.memory.specs.declared.plain.PhalandrixNode.{PhalandrixNode}
@@ -109,7 +109,7 @@ numbers-of-mask own l h e =
 -- a node, and the nodes of a graph
 node-back : (v : ℕ) (x : Rules.Node) (xs : List Rules.Node) → v ≤ Limits.nodes .to → nodesFormed v (x ∷ xs) ≡ true → nodeIn (plainNode (codedNode x)) ≡ x
 node-back v x xs h e =
-    ap (λ (l : List ℕ). record { budget = x .budget; level = x .level; after = l }) (numbers-of-mask v (x .after) h (node-formed v x xs e .order))
+    ap (λ (l : List ℕ). record { budget = x .budget; level = x .level; point = x .point; after = l }) (numbers-of-mask v (x .after) h (node-formed v x xs e .order))
 
 nodes-back : (v : ℕ) (xs : List Rules.Node) (rows : List Node) (f : ℕ) (at : ℕ → PhalandrixNode) → v + length xs ≤ suc (Limits.nodes .to) → f + length xs ≤ length rows
     → nodesFormed v xs ≡ true → ((i : ℕ) → i < f + length xs → at i ≡ plainNode (getD (filled rows f xs) i Fresh.noNode))
@@ -176,10 +176,10 @@ table-of-plain T e =
     let f = table-formed T e in
     let few = within-limits Limits.graphs (length (T .graphs)) (f .few) in
     let every = within-limits Limits.allNodes (nodesIn (T .graphs)) (f .nodes) in
-    let t = emptyTable (T .processors) (T .rounds) in
+    let t = emptyTable (T .form) (T .processors) (T .rounds) in
     let u = withGraphs t (T .graphs) in
     let counted : countOf (u .graphs) ≡ length (T .graphs) = ap countOf (graphs-counted (T .graphs) t) ∙ omega (arith, few .1) in
-    rw (processors-stay (T .graphs) t, rounds-stay (T .graphs) t)
-    (ap (λ (Gs : List Rules.Graph). record { processors = T .processors; rounds = T .rounds; graphs = Gs })
+    rw (form-stays (T .graphs) t, processors-stay (T .graphs) t, rounds-stay (T .graphs) t)
+    (ap (λ (Gs : List Rules.Graph). record { form = T .form; processors = T .processors; rounds = T .rounds; graphs = Gs })
     (ap (graphsIn (plainGraphs (u .graph)) (plainNodes (u .node)) 0 0) counted
     ∙ graphs-back (T .graphs) t (omega (arith, few .1)) refl refl (omega (arith, every .1)) (f .graphs)))

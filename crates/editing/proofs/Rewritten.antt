@@ -15,13 +15,12 @@ use Rattle.format.specs.Reading.{Outcome, refused, done, readOf}
 use Rattle.rules.specs.Answers.{Reply, says, refuses}
 use Rattle.writer.specs.Judging.{writeOf}
 use Rattle.writer.specs.Lengths.{longestWritten}
-use Rattle.writer.proofs.WrittenLength.{written-within}
-use Rattle.writer.proofs.WriterAnswers.{write-formed}
+use Rattle.writer.proofs.WriterAnswers.{write-within}
 use Rattle.editing.specs.Editing.{rewritten, rewriteOf}
 
 fits-by : (x : Outcome Rules.Table) (t : List ℕ) → rewritten x ≡ says t → length t ≤ longestWritten
 fits-by (refused r) t e = absurd (let z : _≡_ {A = ℕ} 0 1 = cc in omega arith)
-fits-by (done T p) t e = let h = write-formed T t e in rw (sym (h .1)) (written-within T (h .0))
+fits-by (done T p) t e = write-within T t e
 
 pub every-rewrite-fits : (s t : List ℕ) → rewriteOf s ≡ says t → length t ≤ longestWritten
 unfolding rewriteOf

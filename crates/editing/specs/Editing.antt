@@ -13,7 +13,7 @@ use Rattle.editing.specs.Plains.{plainOf}
 
 -- the table in memory, all zeros past its counts; or the refusal, and a table of zeros
 abbrev pub readTable : Outcome Rules.Table → ReadTable
-readTable (refused r) = record { table = plainOf (emptyTable 0 0); judged = Refused r }
+readTable (refused r) = record { table = plainOf (emptyTable 0 0 0); judged = Refused r }
 readTable (done T p) = record { table = plainOf (memoryOf T); judged = Passes }
 
 -- a table read and written again: what the writer says of the table that was read, or refusals 1 to 4

@@ -21,7 +21,7 @@ abbrev pub plainGraph : Graph → PhalandrixGraph
 plainGraph G = record { period = G .period; offset = G .offset; nodes = countOf (G .nodes) }
 
 abbrev pub plainNode : Node → PhalandrixNode
-plainNode x = record { budget = x .budget; level = x .level; after = x .after }
+plainNode x = record { budget = x .budget; level = x .level; point = x .point; after = x .after }
 
 abbrev pub plainGraphs : List Graph → List PhalandrixGraph
 plainGraphs graphs = replaced (λ (g : ℕ). plainGraph (getD graphs g Fresh.noGraph)) (replicate (Limits.graphs .to) noGraph) (Limits.graphs .to)
@@ -31,4 +31,4 @@ plainNodes nodes = replaced (λ (i : ℕ). plainNode (getD nodes i Fresh.noNode)
 
 abbrev pub plainOf : Table → PhalandrixTable
 plainOf t =
-    record { processors = t .processors; rounds = t .rounds; graphs = countOf (t .graphs); graph = plainGraphs (t .graph); node = plainNodes (t .node) }
+    record { form = t .form; processors = t .processors; rounds = t .rounds; graphs = countOf (t .graphs); graph = plainGraphs (t .graph); node = plainNodes (t .node) }

@@ -49,6 +49,7 @@ pub fn nodes_of(nodes: [Node; Table::SERVERS]) -> [PhalandrixNode; Table::SERVER
     let none = PhalandrixNode {
         budget: 0,
         level: 0,
+        point: 0,
         after: 0,
     };
     let mut list = [none; Table::SERVERS];
@@ -58,6 +59,7 @@ pub fn nodes_of(nodes: [Node; Table::SERVERS]) -> [PhalandrixNode; Table::SERVER
         let y = PhalandrixNode {
             budget: x.budget,
             level: x.level,
+            point: x.point,
             after: x.after,
         };
         list[i] = y;
@@ -75,6 +77,7 @@ pub fn plain_of(t: Table) -> PhalandrixTable
     let graph = graphs_of(graphs);
     let node = nodes_of(nodes);
     PhalandrixTable {
+        form: t.form,
         processors: t.processors,
         rounds: t.rounds,
         graphs: n,

@@ -26,7 +26,7 @@ pub fn read(bytes: &[u8]) -> ReadTable
     let end = got.end;
     match end {
         End::Refused(f) => ReadTable {
-            table: plain_of(Table::empty(0, 0)),
+            table: plain_of(Table::empty(0, 0, 0)),
             judged: Judged::Refused(f),
         },
         End::At(_) => {

@@ -12,15 +12,16 @@ ghost use Rattle.schedule.specs.WellFormed.{wellFormed};
 ghost use Rattle.rules.specs.Answers.{says, callOf};
 ghost use Rattle.writer.specs.Writing.{writtenOf};
 ghost use Rattle.writer.specs.Judging.{writeOf};
+ghost use Rattle.writer.specs.Settled.{settled};
 ghost use Rattle.memory.specs.Plain.{tableIn};
 ghost use Rattle.editing.specs.Calls.{called};
 
 // No table's text is longer: `longestWritten` of the definitions.
-pub const WRITTEN_BYTES: usize = 2_616;
+pub const WRITTEN_BYTES: usize = 3_007;
 
 // The text is made in room of its own, so that refusal 10 is known before the first byte of the buffer is written.
 pub fn put_formed(table: PhalandrixTable, buffer: &mut [u8]) -> Answer
-    requires { ⌜ wellFormed (tableIn table) ≡ true ⌝ }
+    requires { ⌜ wellFormed (settled (tableIn table)) ≡ true ⌝ }
     ensures { λ r. ⌜ called r (now (buffer .exit)) ≡ callOf (now (buffer .entry)) (says (writtenOf (tableIn table))) ⌝ }
 {
     let mut text = [0u8; WRITTEN_BYTES];

@@ -1,19 +1,21 @@
 -- The worked cases hold, by computation.
 use mathlib.Core.Path.{_≡_, refl}
+use mathlib.Core.Bool.{not}
 use mathlib.Core.List.{List, [], _∷_, map}
 use mathlib.Core.Option.{Option, none, some}
 use Prim.Native.Nat.{ℕ, suc}
 use lib.ListN.{length, replicate, take}
-use Rattle.schedule.specs.Lists.{numbers, upTo}
+use Rattle.schedule.specs.Lists.{keep, numbers, upTo}
 use Rattle.format.specs.declared.Refusal.{Refusal}
 use Rattle.format.specs.declared.Refusal.the-variants.{TooLong, Misspelled, OutsideLimits}
 use Rattle.format.specs.Bytes.{bytes, decimal}
-use Rattle.format.specs.Keys.{key, keys}
+use Rattle.format.specs.Keys as Keys
+use Rattle.format.specs.Keys.{Key, keys, hasLine}
 use Rattle.format.specs.Spelling.{number}
 use Rattle.format.specs.Reading.{done, readOf}
 use Rattle.format.specs.Refusals.{numberOf, lineOf, columnOf}
 use Rattle.format.specs.Cases as Cases
-use Rattle.format.specs.Cases.{allLines, lines, changed, theTable, refusalOf, LineCase, NodesCase, threeNodes, ListCase, lastList, endsAt, chains, NumberCase, KeyCase, Numbered, numbered}
+use Rattle.format.specs.Cases.{allLines, lines, allPointedLines, pointedLines, changed, changedPointed, theTable, thePointedTable, refusalOf, LineCase, NodesCase, threeNodes, ListCase, lastList, endsAt, chains, NumberCase, KeyCase, Numbered, numbered}
 use Rattle.format.proofs.Computing.{reading}
 
 abbrev given : LineCase → Option Refusal
@@ -25,6 +27,14 @@ Hold cases = map given cases ≡ map (λ (c : LineCase). c .gives) cases
 pub spellings-hold : Hold Cases.spellings
 unfolding reading lines Cases.spellings
 spellings-hold = refl
+
+pub first-lines-hold : Hold Cases.firstLines
+unfolding reading lines Cases.firstLines
+first-lines-hold = refl
+
+pub points-hold : map (λ (c : LineCase). refusalOf (readOf (changedPointed (c .line) (bytes (c .text))))) Cases.points ≡ map (λ (c : LineCase). c .gives) Cases.points
+unfolding reading pointedLines Cases.points
+points-hold = refl
 
 pub limits-hold : Hold Cases.limits
 unfolding reading lines Cases.limits
@@ -47,12 +57,16 @@ pub table-holds : readOf (changed 0 []) ≡ done theTable (record { line = suc a
 unfolding reading lines
 table-holds = refl
 
+pub pointed-table-holds : readOf (changedPointed 0 []) ≡ done thePointedTable (record { line = suc allPointedLines; bytes = [] })
+unfolding reading pointedLines
+pointed-table-holds = refl
+
 -- each line is needed where it stands, and its LF
 pub absent-hold : map (λ (l : ℕ). refusalOf (readOf (changed l []))) (upTo allLines) ≡ map (λ (l : ℕ). some (Misspelled l 1)) (upTo allLines)
 unfolding reading lines
 absent-hold = refl
 
-pub unended-hold : map (λ (l : ℕ). refusalOf (readOf (changed l (Cases.lineOf l)))) (upTo allLines) ≡ map (λ (l : ℕ). some (Misspelled l (suc (length (Cases.lineOf l))))) (upTo allLines)
+pub unended-hold : map (λ (l : ℕ). refusalOf (readOf (changed l (Cases.lineOf lines l)))) (upTo allLines) ≡ map (λ (l : ℕ). some (Misspelled l (suc (length (Cases.lineOf lines l))))) (upTo allLines)
 unfolding reading lines
 unended-hold = refl
 
@@ -72,13 +86,23 @@ pub cut-off-hold : map (λ (n : ℕ). refusalOf (readOf (take n (changed 0 [])))
 unfolding reading lines endsAt
 cut-off-hold = refl
 
+pub pointed-cut-off-hold : map (λ (n : ℕ). refusalOf (readOf (take n (changedPointed 0 [])))) (numbers 0 (length (changedPointed 0 [])))
+    ≡ map (λ (n : ℕ). some (endsAt 1 1 (take n (changedPointed 0 [])))) (numbers 0 (length (changedPointed 0 [])))
+unfolding reading pointedLines endsAt
+pointed-cut-off-hold = refl
+
 pub numbers-hold : map (λ (c : NumberCase). number (bytes (c .text))) Cases.numberCases ≡ map (λ (c : NumberCase). c .gives) Cases.numberCases
 unfolding reading Cases.numberCases
 numbers-hold = refl
 
-pub keys-hold : keys ≡ map (λ (c : KeyCase). key (c .name) (record { from = c .from; to = c .to })) Cases.keyCases
+pub keys-hold : keys ≡ map (λ (c : KeyCase). record { name = bytes (c .name); range = record { from = c .from; to = c .to }; since = c .since }) Cases.keyCases
 unfolding reading Cases.keyCases
 keys-hold = refl
+
+-- the places of the keys that the old form lacks, and that form 2 does
+pub lines-hold : map (λ (f : ℕ). keep (λ (k : ℕ). not (hasLine f k)) (numbers 0 (length keys))) (1 ∷ 2 ∷ []) ≡ (Keys.form ∷ Keys.point ∷ []) ∷ [] ∷ []
+unfolding reading
+lines-hold = refl
 
 -- an empty table lacks its first line; 4,096 bytes are read, of one more nothing is
 pub bytes-hold : map (λ (n : ℕ). refusalOf (readOf (replicate n 0))) (0 ∷ 4096 ∷ 4097 ∷ []) ≡ some (Misspelled 1 1) ∷ some (Misspelled 1 1) ∷ some TooLong ∷ []

@@ -1,5 +1,5 @@
--- Worked cases of reading: a table of 18 lines, and what becomes of it when one of its lines is another text. They are computed in
--- proofs/Cases.antt.
+-- Worked cases of reading: a table of 18 lines, one with points of 22, and what becomes of them when one of their lines is another text. They
+-- are computed in proofs/Cases.antt.
 use mathlib.Core.Bool.{cond}
 use mathlib.Core.List.{List, [], _∷_, _++_}
 use mathlib.Core.Option.{Option, none, some}
@@ -42,12 +42,48 @@ lines =
 abbrev pub allLines : ℕ
 allLines = 18
 
-abbrev pub lineOf : ℕ → List ℕ
-lineOf k = bytes (getD lines (k - 1) "")
+-- the same two graphs with points (R-9)
+unfoldable pub pointedLines : List String
+pointedLines =
+    "form=2"
+    ∷ "processors=1"
+    ∷ "rounds=2"
+    ∷ "graphs=2"
+    ∷ "period=4"
+    ∷ "offset=0"
+    ∷ "nodes=2"
+    ∷ "budget=1"
+    ∷ "level=1"
+    ∷ "point=7"
+    ∷ "after=none"
+    ∷ "budget=2"
+    ∷ "level=3"
+    ∷ "point=0"
+    ∷ "after=1"
+    ∷ "period=8"
+    ∷ "offset=1"
+    ∷ "nodes=1"
+    ∷ "budget=3"
+    ∷ "level=1"
+    ∷ "point=20000"
+    ∷ "after=none"
+    ∷ []
 
--- the table, with the bytes s for line l and its LF
+abbrev pub allPointedLines : ℕ
+allPointedLines = 22
+
+abbrev pub lineOf : List String → ℕ → List ℕ
+lineOf ls k = bytes (getD ls (k - 1) "")
+
+-- a table of n lines, with the bytes s for line l and its LF
+abbrev pub changedIn : List String → ℕ → ℕ → List ℕ → List ℕ
+changedIn ls n l s = joined (λ (k : ℕ). cond (eqb k l) s (lineOf ls k ++ (lineFeed ∷ []))) 1 n
+
 abbrev pub changed : ℕ → List ℕ → List ℕ
-changed l s = joined (λ (k : ℕ). cond (eqb k l) s (lineOf k ++ (lineFeed ∷ []))) 1 allLines
+changed l s = changedIn lines allLines l s
+
+abbrev pub changedPointed : ℕ → List ℕ → List ℕ
+changedPointed l s = changedIn pointedLines allPointedLines l s
 
 -- what is read of it as it stands (it has no line 0)
 abbrev pub theTable : Table
@@ -55,6 +91,13 @@ theTable =
     Described.table 1 2
     (Described.graph 4 0 (Described.node 1 1 [] ∷ Described.node 2 3 (1 ∷ []) ∷ [])
     ∷ Described.graph 8 1 (Described.one 3 1)
+    ∷ [])
+
+abbrev pub thePointedTable : Table
+thePointedTable =
+    Described.pointedTable 1 2
+    (Described.pointedGraph 4 0 (Described.pointedNode 1 1 7 [] ∷ Described.pointedNode 2 3 0 (1 ∷ []) ∷ [])
+    ∷ Described.pointedGraph 8 1 (Described.pointed 3 20000)
     ∷ [])
 
 abbrev pub refusalOf : Outcome Table → Option Refusal
@@ -126,6 +169,60 @@ spellings =
     ∷ at 3 "graphs=3\n" (some (Misspelled 19 1))
     ∷ at 6 "nodes=3\n" (some (Misspelled 13 1))
     ∷ at 15 "nodes=2\n" (some (Misspelled 19 1))
+    ∷ []
+
+-- the first line: that of either form; its first byte decides
+unfoldable pub firstLines : List LineCase
+firstLines =
+    at 1 "xprocessors=1\n" (some (Misspelled 1 1))
+    ∷ at 1 "Form=2\n" (some (Misspelled 1 1))
+    ∷ at 1 "rounds=2\n" (some (Misspelled 1 1))
+    ∷ at 1 "point=7\n" (some (Misspelled 1 2))
+    ∷ at 1 "pform=2\n" (some (Misspelled 1 2))
+    ∷ at 1 "fx\n" (some (Misspelled 1 2))
+    ∷ at 1 "fprocessors=1\n" (some (Misspelled 1 2))
+    ∷ at 1 "form\n" (some (Misspelled 1 5))
+    ∷ at 1 "forms=2\n" (some (Misspelled 1 5))
+    ∷ at 1 "form=\n" (some (Misspelled 1 6))
+    ∷ at 1 "form=x\n" (some (Misspelled 1 6))
+    ∷ at 1 "form=02\n" (some (Misspelled 1 7))
+    ∷ at 1 "form=2,\n" (some (Misspelled 1 7))
+    -- 3 for any other number, before any later line
+    ∷ at 1 "form=0\n" (some (OutsideLimits 1 6))
+    ∷ at 1 "form=1\n" (some (OutsideLimits 1 6))
+    ∷ at 1 "form=1\nprocessors=1\n" (some (OutsideLimits 1 6))
+    ∷ at 1 "form=3\n" (some (OutsideLimits 1 6))
+    ∷ at 1 "form=65538\n" (some (OutsideLimits 1 6))
+    ∷ at 1 "form=18446744073709551618\n" (some (OutsideLimits 1 6))
+    -- all lines behind it count one more; a form 2 table has points
+    ∷ at 1 "form=2\n" (some (Misspelled 2 1))
+    ∷ at 1 "form=2\nprocessors=9\n" (some (OutsideLimits 2 12))
+    ∷ at 1 "form=2\nprocessors=1\n" (some (Misspelled 10 1))
+    ∷ at 1 "form=2\nform=2\n" (some (Misspelled 2 1))
+    -- the old form has none
+    ∷ at 8 "level=1\npoint=4\n" (some (Misspelled 9 1))
+    ∷ []
+
+-- the lines of a form 2 table
+unfoldable pub points : List LineCase
+points =
+    at 10 "point=0\n" none
+    ∷ at 10 "point=20000\n" none
+    ∷ at 10 "point=20001\n" (some (OutsideLimits 10 7))
+    ∷ at 14 "point=20001\n" (some (OutsideLimits 14 7))
+    ∷ at 21 "point=18446744073709551616\n" (some (OutsideLimits 21 7))
+    ∷ at 10 "point=00\n" (some (Misspelled 10 8))
+    ∷ at 10 "point=\n" (some (Misspelled 10 7))
+    ∷ at 10 "points=1\n" (some (Misspelled 10 6))
+    ∷ at 10 "period=4\n" (some (Misspelled 10 2))
+    ∷ at 10 "after=none\n" (some (Misspelled 10 1))
+    ∷ at 9 "level=5\n" (some (OutsideLimits 9 7))
+    ∷ at 9 "point=7\nlevel=1\n" (some (Misspelled 9 1))
+    ∷ at 15 "after=2\n" (some (AgainstPredecessorRules 15 7))
+    ∷ at 7 "nodes=1\n" (some (Misspelled 12 1))
+    ∷ at 22 "after=none\nx" (some (Misspelled 23 1))
+    -- without its first line it is of the old form, and `point` stands where `after` is due
+    ∷ at 1 "" (some (Misspelled 9 1))
     ∷ []
 
 -- both sides of every limit; no run of digits is taken for a smaller number
@@ -291,27 +388,30 @@ numberCases =
     ∷ unspelled "-1"
     ∷ []
 
--- the nine keys with the limits of their numbers, of `after` those of each number of its list
+-- the keys with the limits of their numbers, of `after` those of each number of its list, and the first form that has them
 pub record KeyCase : Type 0 where
   pub name : String
   pub from : ℕ
   pub to : ℕ
+  pub since : ℕ
 
-abbrev pub named : String → ℕ → ℕ → KeyCase
-named s a b = record { name = s; from = a; to = b }
+abbrev pub named : String → ℕ → ℕ → ℕ → KeyCase
+named s a b f = record { name = s; from = a; to = b; since = f }
 
 unfoldable pub keyCases : List KeyCase
 keyCases =
-    named "processors" 1 8
-    ∷ named "rounds" 1 64
-    ∷ named "graphs" 1 8
-    ∷ named "period" 1 10000
-    ∷ named "offset" 0 10000
-    ∷ named "nodes" 1 16
-    ∷ named "budget" 1 10000
-    ∷ named "level" 1 4
-    ∷ named "after" 1 15
-    ∷ named "limit" 0 2000000
+    named "form" 2 2 2
+    ∷ named "processors" 1 8 1
+    ∷ named "rounds" 1 64 1
+    ∷ named "graphs" 1 8 1
+    ∷ named "period" 1 10000 1
+    ∷ named "offset" 0 10000 1
+    ∷ named "nodes" 1 16 1
+    ∷ named "budget" 1 10000 1
+    ∷ named "level" 1 4 1
+    ∷ named "point" 0 20000 2
+    ∷ named "after" 1 15 1
+    ∷ named "limit" 0 2000000 1
     ∷ []
 
 -- the number, line and column of each refusal

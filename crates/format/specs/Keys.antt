@@ -1,8 +1,10 @@
--- The nine keys of a table in the order in which they stand, each with its name and the limits of its number; of `after`, those of each
--- number of its list. Behind them the one key of a limit text (document 02, R-12).
+-- The keys of a table in the order in which they stand, each with its name, the limits of its number (of `after`, those of each number of its
+-- list), and the first form that has its line. Behind them the one key of a limit text (R-12).
+use mathlib.Core.Bool.{Bool, not}
 use mathlib.Core.List.{List, [], _∷_}
 use Prim.Native.Nat.{ℕ}
 use Prim.Native.String.{String}
+use lib.Dec.{leb, eqb}
 use lib.ListN.{getD}
 use Rattle.format.specs.Bytes.{bytes}
 use Rattle.schedule.specs.Limits as Limits
@@ -11,13 +13,19 @@ use Rattle.schedule.specs.Limits.{Range}
 pub record Key : Type 0 where
   pub name : List ℕ
   pub range : Range
+  pub since : ℕ
 
+-- a key of every form, and one of R-9's
 abbrev pub key : String → Range → Key
-key s r = record { name = bytes s; range = r }
+key s r = record { name = bytes s; range = r; since = Limits.oldForm }
+
+abbrev pub newKey : String → Range → Key
+newKey s r = record { name = bytes s; range = r; since = Limits.form .from }
 
 unfoldable pub keys : List Key
 keys =
-    key "processors" Limits.processors
+    newKey "form" Limits.form
+    ∷ key "processors" Limits.processors
     ∷ key "rounds" Limits.rounds
     ∷ key "graphs" Limits.graphs
     ∷ key "period" Limits.period
@@ -25,6 +33,7 @@ keys =
     ∷ key "nodes" Limits.nodes
     ∷ key "budget" Limits.budget
     ∷ key "level" Limits.level
+    ∷ newKey "point" Limits.point
     ∷ key "after" Limits.predecessor
     ∷ key "limit" Limits.limit
     ∷ []
@@ -37,32 +46,46 @@ abbrev pub keyAt : ℕ → Key
 keyAt k = getD keys k noKey
 
 -- the place of each in the list
+abbrev pub form : ℕ
+form = 0
+
 abbrev pub processors : ℕ
-processors = 0
+processors = 1
 
 abbrev pub rounds : ℕ
-rounds = 1
+rounds = 2
 
 abbrev pub graphs : ℕ
-graphs = 2
+graphs = 3
 
 abbrev pub period : ℕ
-period = 3
+period = 4
 
 abbrev pub offset : ℕ
-offset = 4
+offset = 5
 
 abbrev pub nodes : ℕ
-nodes = 5
+nodes = 6
 
 abbrev pub budget : ℕ
-budget = 6
+budget = 7
 
 abbrev pub level : ℕ
-level = 7
+level = 8
+
+abbrev pub point : ℕ
+point = 9
 
 abbrev pub after : ℕ
-after = 8
+after = 10
 
 abbrev pub limit : ℕ
-limit = 9
+limit = 11
+
+-- which lines a form has: those of its own and of the forms before it
+unfoldable pub hasLine : ℕ → ℕ → Bool
+hasLine f k = leb (keyAt k .since) f
+
+-- whether a table tells its form in a first line: every one does but those of the old form
+unfoldable pub tellsForm : ℕ → Bool
+tellsForm f = not (eqb f Limits.oldForm)

@@ -10,7 +10,7 @@ use Rattle.format.specs.declared.Refusal.the-variants.{TooLong, Misspell
 use Rattle.schedule.specs.Limits as Limits
 use Rattle.format.specs.Bytes.{comma}
 use Rattle.format.specs.Keys as Keys
-use Rattle.format.specs.Keys.{keyAt}
+use Rattle.format.specs.Keys.{keyAt, hasLine}
 use Rattle.format.specs.Spelling.{Scan, read, wrong, number, next?, list, line}
 use Rattle.schedule.specs.Table.{Node, Graph, Table}
 use Rattle.schedule.specs.WellFormed.{within, orderly, allFollowed}
@@ -81,45 +81,52 @@ afterLine own p =
     let fault : List ℕ = offending own (valueIn Keys.after (p .bytes)) in
     judged AgainstPredecessorRules (columnAt (p .bytes) fault) (orderly own) p (line (keyAt Keys.after .name) list (p .bytes))
 
--- node number own of its graph
-unfoldable pub node : ℕ → Place → Outcome Node
-node own p =
+-- a node's point in a table of that form: where the form has no such line it is the period
+unfoldable pub pointLine : ℕ → ℕ → Place → Outcome ℕ
+pointLine form period p =
+    let point : Outcome ℕ = numberLine Keys.point p in
+    cond (hasLine form Keys.point) point (done period p)
+
+-- node number own of its graph, in a table of that form
+unfoldable pub node : ℕ → ℕ → ℕ → Place → Outcome Node
+node form period own p =
     numberLine Keys.budget p and-then λ budget p.
     numberLine Keys.level p and-then λ level p.
+    pointLine form period p and-then λ point p.
     afterLine own p and-then λ after p.
-    done (record { budget = budget; level = level; after = after }) p
+    done (record { budget = budget; level = level; point = point; after = after }) p
 
 -- the nodes from number own on, as many as are left
-unfoldable pub nodesFrom : ℕ → ℕ → Place → Outcome (List Node)
-nodesFrom own zero p = done [] p
-nodesFrom own (suc left) p =
-    node own p and-then λ x p.
-    nodesFrom (suc own) left p and-then λ xs p.
+unfoldable pub nodesFrom : ℕ → ℕ → ℕ → ℕ → Place → Outcome (List Node)
+nodesFrom form period own zero p = done [] p
+nodesFrom form period own (suc left) p =
+    node form period own p and-then λ x p.
+    nodesFrom form period (suc own) left p and-then λ xs p.
     done (x ∷ xs) p
 
 -- a graph's n nodes, once its three numbers are read, the last of them on line l; the graphs before it have `total` nodes. The missing
 -- successor is judged after the graph's last line passes, and is charged to that line
-unfoldable pub graphNodes : ℕ → ℕ → ℕ → ℕ → ℕ → Place → Outcome Graph
-graphNodes total period offset n l p =
+unfoldable pub graphNodes : ℕ → ℕ → ℕ → ℕ → ℕ → ℕ → Place → Outcome Graph
+graphNodes form total period offset n l p =
     let rest : Outcome Graph =
-    nodesFrom 1 n p and-then λ xs q.
+    nodesFrom form period 1 n p and-then λ xs q.
     cond (allFollowed xs)
     (done (record { period = period; offset = offset; nodes = xs }) q)
     (refused (AgainstPredecessorRules (q .line - 1) firstColumn)) in
     cond (leb (total + n) (Limits.allNodes .to)) rest (refused (OutsideLimits l (valueColumn Keys.nodes)))
 
-unfoldable pub graph : ℕ → Place → Outcome Graph
-graph total p =
+unfoldable pub graph : ℕ → ℕ → Place → Outcome Graph
+graph form total p =
     numberLine Keys.period p and-then λ period p.
     numberLine Keys.offset p and-then λ offset p.
     numberLine Keys.nodes p and-then λ n q.
-    graphNodes total period offset n (p .line) q
+    graphNodes form total period offset n (p .line) q
 
-unfoldable pub graphsFrom : ℕ → ℕ → Place → Outcome (List Graph)
-graphsFrom total zero p = done [] p
-graphsFrom total (suc left) p =
-    graph total p and-then λ G p.
-    graphsFrom (total + length (G .nodes)) left p and-then λ Gs p.
+unfoldable pub graphsFrom : ℕ → ℕ → ℕ → Place → Outcome (List Graph)
+graphsFrom form total zero p = done [] p
+graphsFrom form total (suc left) p =
+    graph form total p and-then λ G p.
+    graphsFrom form (total + length (G .nodes)) left p and-then λ Gs p.
     done (G ∷ Gs) p
 
 -- no bytes follow the last line
@@ -128,13 +135,27 @@ module _ {A : Type 0} where
   ended a p [] = done a p
   ended a p (c ∷ rest) = refused (Misspelled (p .line) firstColumn)
 
-unfoldable pub table : Place → Outcome Table
-table p =
+-- the first byte of `form`, and of no other key that a table can begin with
+abbrev pub letterF : ℕ
+letterF = 102
+
+-- the form: told by the first line where that begins with the first byte of `form`; else the first line is already the old form's
+unfoldable pub formLine : Place → Outcome ℕ
+formLine p =
+    let form : Outcome ℕ = numberLine Keys.form p in
+    cond (next? letterF (p .bytes)) form (done Limits.oldForm p)
+
+-- a table of that form, behind the line that tells it
+unfoldable pub formTable : ℕ → Place → Outcome Table
+formTable form p =
     numberLine Keys.processors p and-then λ processors p.
     numberLine Keys.rounds p and-then λ rounds p.
     numberLine Keys.graphs p and-then λ n p.
-    graphsFrom 0 n p and-then λ Gs p.
-    ended (record { processors = processors; rounds = rounds; graphs = Gs }) p (p .bytes)
+    graphsFrom form 0 n p and-then λ Gs p.
+    ended (record { form = form; processors = processors; rounds = rounds; graphs = Gs }) p (p .bytes)
+
+unfoldable pub table : Place → Outcome Table
+table p = formLine p and-then λ form p. formTable form p
 
 -- refusals 1 to 4
 unfoldable pub readOf : List ℕ → Outcome Table

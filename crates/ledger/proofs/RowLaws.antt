@@ -47,7 +47,7 @@ module _ (plan : Plan) (offsets : List ℕ) (l : Ledger) where
 
   -- one rank more
   module _ (r : ℕ) {row : Row} (so-far : row ≡ rowTo plan offsets l r) {n : ℕ} (nodes : n ≡ nodesOf plan) {x : Found}
-      (found-is : x ≡ found offsets (plan .period) (plan .level) (l .complete) (l .released) n r) where
+      (found-is : x ≡ found offsets (plan .period) (plan .point) (plan .level) (l .complete) (l .released) n r) where
     x-is : x ≡ ofRank plan offsets l r
     x-is = rw nodes at found-is
 

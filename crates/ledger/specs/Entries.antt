@@ -1,7 +1,7 @@
 -- The entries of a ledger by place and number. These definitions, and all of this crate's, are for the proof and not for belief: what a
 -- reader believes is the rules.
 use mathlib.Core.List.{List}
-use Prim.Native.Nat.{ℕ, _+_, _*_, _%_}
+use Prim.Native.Nat.{ℕ, _+_, _*_, _-_, _%_}
 use lib.ListN.{getD}
 use Rattle.window.specs.Entries.{places, window}
 use Rattle.ledger.specs.declared.Ledger.{Ledger}
@@ -20,6 +20,10 @@ slotAt i k = i * room + k % room
 -- rule 1
 abbrev pub instantAfter : (offset period periods : ℕ) → ℕ
 instantAfter offset period periods = offset + periods * period
+
+-- what server job k is ordered by: its release plus the point
+abbrev pub priorityAt : (offset period point k : ℕ) → ℕ
+priorityAt offset period point k = instantAfter offset period (k - 1) + point
 
 abbrev pub offsetAt : List ℕ → ℕ → ℕ
 offsetAt offsets i = getD offsets i 0

@@ -8,7 +8,7 @@ use Rattle.window.specs.declared.Plan.{Plan}
 use Rattle.window.specs.Entries.{further, nodesOf}
 use Rattle.ledger.specs.declared.Ledger.{Ledger}
 use Rattle.ledger.specs.declared.Found.{Found}
-use Rattle.ledger.specs.Entries.{slotAt, instantAfter}
+use Rattle.ledger.specs.Entries.{slotAt, priorityAt}
 use Rattle.ledger.specs.Loops.{changed}
 
 -- rule 4: the last ready server job
@@ -16,17 +16,17 @@ abbrev pub readyTo : (complete released level : ℕ) → ℕ
 readyTo complete released level = min released (further complete level)
 
 -- rule 5
-abbrev pub isBefore : (d deadline : ℕ) → Bool → Bool
-isBefore d deadline earlier = cond (eqb d deadline) earlier (ltb d deadline)
+abbrev pub isBefore : (d priority : ℕ) → Bool → Bool
+isBefore d priority earlier = cond (eqb d priority) earlier (ltb d priority)
 
 -- of m server jobs after number `from`
-unfoldable pub beforeBy : (offset period from deadline : ℕ) → Bool → ℕ → ℕ
-beforeBy offset period from deadline earlier zero = 0
-beforeBy offset period from deadline earlier (suc m) =
-    cond (isBefore (instantAfter offset period (from + suc m)) deadline earlier) (further (beforeBy offset period from deadline earlier m) 1)
-    (beforeBy offset period from deadline earlier m)
+unfoldable pub beforeBy : (offset period point from priority : ℕ) → Bool → ℕ → ℕ
+beforeBy offset period point from priority earlier zero = 0
+beforeBy offset period point from priority earlier (suc m) =
+    cond (isBefore (priorityAt offset period point (from + suc m)) priority earlier) (further (beforeBy offset period point from priority earlier m) 1)
+    (beforeBy offset period point from priority earlier m)
 
-module _ (offsets period level complete released : List ℕ) where
+module _ (offsets period point level complete released : List ℕ) where
   -- the ready server jobs at place m are as many, after the complete ones
   abbrev pub lastReady : ℕ → ℕ
   lastReady m = readyTo (getD complete m 0) (getD released m 0) (getD level m 0)
@@ -34,16 +34,16 @@ module _ (offsets period level complete released : List ℕ) where
   abbrev pub readyCount : ℕ → ℕ
   readyCount m = lastReady m - getD complete m 0
 
-  abbrev pub beforeAt : (i deadline m : ℕ) → ℕ
-  beforeAt i deadline m = beforeBy (getD offsets m 0) (getD period m 0) (getD complete m 0) deadline (ltb m i) (readyCount m)
+  abbrev pub beforeAt : (i priority m : ℕ) → ℕ
+  beforeAt i priority m = beforeBy (getD offsets m 0) (getD period m 0) (getD point m 0) (getD complete m 0) priority (ltb m i) (readyCount m)
 
   -- over the first n places
-  unfoldable pub rankBy : (i deadline n : ℕ) → ℕ
-  rankBy i deadline zero = 0
-  rankBy i deadline (suc m) = further (rankBy i deadline m) (beforeAt i deadline m)
+  unfoldable pub rankBy : (i priority n : ℕ) → ℕ
+  rankBy i priority zero = 0
+  rankBy i priority (suc m) = further (rankBy i priority m) (beforeAt i priority m)
 
   abbrev pub rank : (n i k : ℕ) → ℕ
-  rank n i k = rankBy i (instantAfter (getD offsets i 0) (getD period i 0) k) n
+  rank n i k = rankBy i (priorityAt (getD offsets i 0) (getD period i 0) (getD point i 0) k) n
 
   -- rule 6: the ticks used, after m server jobs of place i in turn; and after all that are ready there
   abbrev pub ranBy : (old : List ℕ) → (n p i : ℕ) → List ℕ → ℕ → List ℕ
@@ -82,6 +82,6 @@ run plan offsets l =
       finished = l .finished;
       worst = l .worst;
       used =
-          runTo offsets (plan .period) (plan .level) (l .complete) (l .released) (l .used) (nodesOf plan) (plan .processors) (nodesOf plan);
+          runTo offsets (plan .period) (plan .point) (plan .level) (l .complete) (l .released) (l .used) (nodesOf plan) (plan .processors) (nodesOf plan);
       link = l .link;
     }

@@ -23,7 +23,7 @@ blank = record { run = replicate (Limits.processors .to) (runOf 0 0 0 0); count 
 
 module _ (plan : Plan) (offsets : List ℕ) (l : Ledger) where
   abbrev pub ofRank : ℕ → Found
-  ofRank r = found offsets (plan .period) (plan .level) (l .complete) (l .released) (nodesOf plan) r
+  ofRank r = found offsets (plan .period) (plan .point) (plan .level) (l .complete) (l .released) (nodesOf plan) r
 
   abbrev pub lineOf : Found → Run
   lineOf x = runOf (getD (plan .graph) (x .place) 0) (getD (plan .node) (x .place) 0) (x .number) (linkAt l (x .place) (x .number))

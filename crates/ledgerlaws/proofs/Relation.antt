@@ -17,11 +17,10 @@ use Rattle.ledger.specs.declared.Ledger.{Ledger}
 use Rattle.ledger.specs.Entries as Entries
 use Rattle.ledger.specs.Entries.{offsetAt, releasedAt, completeAt, linkedAt, finishedAt, worstAt, usedAt, linkAt}
 
--- the plan and the offsets are the rules' servers, and a server job's priority is its deadline
+-- the plan and the offsets are the rules' servers
 pub record Laid (X : Box) (plan : Plan) (offsets : List ℕ) : Type 0 where
   pub fits : Fits X plan
   pub offset : (i : ℕ) → i < length (X .servers) → offsetAt offsets i ≡ (srv (X .servers) i) .offset
-  pub point : (i : ℕ) → i < length (X .servers) → (srv (X .servers) i) .point ≡ (srv (X .servers) i) .period
 
 -- the lists of a ledger have their lengths
 pub record Sized (l : Ledger) : Type 0 where

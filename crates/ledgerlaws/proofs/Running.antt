@@ -66,14 +66,14 @@ module _ (X : Box) (plan : Plan) (offsets : List ℕ) (laid : Laid X plan offset
   p = plan .processors
 
   abbrev d : ℕ → ℕ
-  d i = readyCount offsets (plan .period) (plan .level) (l .complete) (l .released) i
+  d i = readyCount offsets (plan .period) (plan .point) (plan .level) (l .complete) (l .released) i
 
   -- server job m, from 0, after the complete ones as the ledger counts them
   abbrev number : ℕ → ℕ → ℕ
   number i m = getD (l .complete) i 0 + suc m
 
   abbrev chosen : ℕ → ℕ → Bool
-  chosen i m = ltb (rank offsets (plan .period) (plan .level) (l .complete) (l .released) n i (number i m)) p
+  chosen i m = ltb (rank offsets (plan .period) (plan .point) (plan .level) (l .complete) (l .released) n i (number i m)) p
 
   abbrev at : ℕ → ℕ → ℕ
   at i m = slotAt i (number i m)
@@ -82,10 +82,10 @@ module _ (X : Box) (plan : Plan) (offsets : List ℕ) (laid : Laid X plan offset
   more i m = further (getD (l .used) (slotAt i (number i m)) 0) 1
 
   abbrev server : ℕ → List ℕ → List ℕ
-  server i u = runServer offsets (plan .period) (plan .level) (l .complete) (l .released) (l .used) n p i u
+  server i u = runServer offsets (plan .period) (plan .point) (plan .level) (l .complete) (l .released) (l .used) n p i u
 
   abbrev to : ℕ → List ℕ
-  to m = runTo offsets (plan .period) (plan .level) (l .complete) (l .released) (l .used) n p m
+  to m = runTo offsets (plan .period) (plan .point) (plan .level) (l .complete) (l .released) (l .used) n p m
 
   to-length : (m : ℕ) → length (to m) ≡ length (l .used)
   unfolding runTo
@@ -122,12 +122,12 @@ module _ (X : Box) (plan : Plan) (offsets : List ℕ) (laid : Laid X plan offset
     number-of j = ap (λ (q : ℕ). q + suc j) (r .complete)
 
     -- the engine's test of server job c + 1 + m is the rules'
-    chosen-is : (k : ℕ) → 1 ≤ k → ltb (rank offsets (plan .period) (plan .level) (l .complete) (l .released) n i k) p ≡ ltb (Rules.rank S σ t (serverJob i k)) (X .cap t)
+    chosen-is : (k : ℕ) → 1 ≤ k → ltb (rank offsets (plan .period) (plan .point) (plan .level) (l .complete) (l .released) n i k) p ≡ ltb (Rules.rank S σ t (serverJob i k)) (X .cap t)
     chosen-is k a =
         let e = rank-is X plan offsets laid t l rel early i k h a in
         let q = laid .fits .cap t in
         let few = laid .fits .processors-most in
-        let own : ℕ = rank offsets (plan .period) (plan .level) (l .complete) (l .released) n i k in
+        let own : ℕ = rank offsets (plan .period) (plan .point) (plan .level) (l .complete) (l .released) n i k in
         let rules : ℕ = Rules.rank S σ t (serverJob i k) in
         bool-ext (ltb own p) (ltb rules (X .cap t))
         (λ w. lt→ltb rules (X .cap t) (omega (arith, ltb→lt own p w, e, q, few)))
@@ -167,7 +167,7 @@ module _ (X : Box) (plan : Plan) (offsets : List ℕ) (laid : Laid X plan offset
 
       chosen-same : chosen i m ≡ ltb (Rules.rank S σ t (serverJob i k)) (X .cap t)
       chosen-same =
-          ap (λ (q : ℕ). ltb (rank offsets (plan .period) (plan .level) (l .complete) (l .released) n i q) p) number-is ∙ chosen-is k (omega arith)
+          ap (λ (q : ℕ). ltb (rank offsets (plan .period) (plan .point) (plan .level) (l .complete) (l .released) n i q) p) number-is ∙ chosen-is k (omega arith)
 
       -- a turn that does not write its slot
       stays : (T (chosen i m) → m < d i → ⊥) → getD (server i (to i)) (slotAt i k) 0 ≡ U

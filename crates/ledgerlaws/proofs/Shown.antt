@@ -42,15 +42,15 @@ use Rattle.ledger.specs.Showing.{ofRank, lineOf, rowTo, rowOf}
 use Rattle.ledger.proofs.RowLaws.{run-length, few-lines}
 
 -- the search for rank r, by place and number
-module _ (offsets period level complete released : List ℕ) (n r : ℕ) where
+module _ (offsets period point level complete released : List ℕ) (n r : ℕ) where
   abbrev number : ℕ → ℕ → ℕ
   number i m = getD complete i 0 + suc m
 
   abbrev own : ℕ → ℕ → ℕ
-  own i m = rank offsets period level complete released n i (number i m)
+  own i m = rank offsets period point level complete released n i (number i m)
 
   abbrev by : ℕ → ℕ → ℕ
-  by i m = foundBy offsets period level complete released n i r m
+  by i m = foundBy offsets period point level complete released n i r m
 
   -- none of the first m ready server jobs of place i has the rank; or one has, and is found
   record NoneIn (i m : ℕ) : Type 0 where
@@ -87,10 +87,10 @@ module _ (offsets period level complete released : List ℕ) (n r : ℕ) where
       (λ e. either-way (by-found i m) (λ x. inl (none-more i m e x)) (λ x. inr (some-more i m e x)))
 
   abbrev inside : ℕ → ℕ
-  inside i = foundIn offsets period level complete released n i r
+  inside i = foundIn offsets period point level complete released n i r
 
   abbrev to : ℕ → Found
-  to m = foundTo offsets period level complete released n r m
+  to m = foundTo offsets period point level complete released n r m
 
   record NoPlace (m : ℕ) : Type 0 where
     none : (i : ℕ) → i < m → inside i ≡ 0
@@ -140,7 +140,7 @@ module _ (X : Box) (plan : Plan) (offsets : List ℕ) (laid : Laid X plan offset
   c i = completed S (X .cap) t i
 
   abbrev d : ℕ → ℕ
-  d i = readyCount offsets (plan .period) (plan .level) (l .complete) (l .released) i
+  d i = readyCount offsets (plan .period) (plan .point) (plan .level) (l .complete) (l .released) i
 
   abbrev rankOf : ServerJob → ℕ
   rankOf x = Rules.rank S σ t x
@@ -153,16 +153,16 @@ module _ (X : Box) (plan : Plan) (offsets : List ℕ) (laid : Laid X plan offset
 
   module _ (r : ℕ) (low : r < Limits.processors .to) where
     abbrev N : Type 0
-    N = NoPlace offsets (plan .period) (plan .level) (l .complete) (l .released) (nodesOf plan) r (nodesOf plan)
+    N = NoPlace offsets (plan .period) (plan .point) (plan .level) (l .complete) (l .released) (nodesOf plan) r (nodesOf plan)
 
     abbrev P : Type 0
-    P = SomePlace offsets (plan .period) (plan .level) (l .complete) (l .released) (nodesOf plan) r (nodesOf plan)
+    P = SomePlace offsets (plan .period) (plan .point) (plan .level) (l .complete) (l .released) (nodesOf plan) r (nodesOf plan)
 
     abbrev x : Found
     x = ofRank plan offsets l r
 
     abbrev mine : ℕ → ℕ → ℕ
-    mine i k = rank offsets (plan .period) (plan .level) (l .complete) (l .released) (nodesOf plan) i k
+    mine i k = rank offsets (plan .period) (plan .point) (plan .level) (l .complete) (l .released) (nodesOf plan) i k
 
     -- a ready server job is one of those that the search goes through
     turn-is : (i : ℕ) → i < length S → (k : ℕ) → c i < k → getD (l .complete) i 0 + suc (k - c i - 1) ≡ k
@@ -181,7 +181,7 @@ module _ (X : Box) (plan : Plan) (offsets : List ℕ) (laid : Laid X plan offset
         let m : ℕ = k - c i - 1 in
         let same : mine i k ≡ r = omega (arith, rank-is X plan offsets laid t l rel early i k h (omega arith), eqb→eq (rankOf y) r z) in
         let e = turn-is i h k a in
-        either-way (by-found offsets (plan .period) (plan .level) (l .complete) (l .released) (nodesOf plan) r i (d i))
+        either-way (by-found offsets (plan .period) (plan .point) (plan .level) (l .complete) (l .released) (nodesOf plan) r i (d i))
         (λ q. q .none m (omega arith) (ap (mine i) e ∙ same))
         (λ q. let zero-there = n .none i (omega (arith, nodes-are X plan (laid .fits))) in let f : ⊥ = omega (arith, q .is) in f))
         all
@@ -200,9 +200,9 @@ module _ (X : Box) (plan : Plan) (offsets : List ℕ) (laid : Laid X plan offset
       inside-S : i < length S
       inside-S = omega (arith, p .below, nodes-are X plan (laid .fits))
 
-      own-turn : SomeIn offsets (plan .period) (plan .level) (l .complete) (l .released) (nodesOf plan) r i (d i)
+      own-turn : SomeIn offsets (plan .period) (plan .point) (plan .level) (l .complete) (l .released) (nodesOf plan) r i (d i)
       own-turn =
-          either-way (by-found offsets (plan .period) (plan .level) (l .complete) (l .released) (nodesOf plan) r i (d i))
+          either-way (by-found offsets (plan .period) (plan .point) (plan .level) (l .complete) (l .released) (nodesOf plan) r i (d i))
           (λ q. absurd (let z : ⊥ = omega (arith, q .is, p .some) in z)) (λ q. q)
 
       k-is : k ≡ c i + suc (own-turn .at)
@@ -270,7 +270,7 @@ module _ (X : Box) (plan : Plan) (offsets : List ℕ) (laid : Laid X plan offset
   unfolding rowTo
   lines zero h = refl
   lines (suc n) h =
-      either-way (to-found offsets (plan .period) (plan .level) (l .complete) (l .released) (nodesOf plan) n (nodesOf plan))
+      either-way (to-found offsets (plan .period) (plan .point) (plan .level) (l .complete) (l .released) (nodesOf plan) n (nodesOf plan))
       (λ q.
       let none = none-of-rank n h q in
       rw (le-ltb 0 ((ofRank plan offsets l n) .number) (omega (arith, q .is))) (lines n (omega arith) ∙ sym (later ∙ rw none (append-nil (map show (joined J 0 n))))))

@@ -158,6 +158,14 @@ module _ (k own : ℕ) (p : Place) where
       plain (done v q) h = h .1
 
 -- three lines, the last of which is that of a number
+-- the first of three numbers is within its limits, and so is the last
+pub three-first : (k own : ℕ) (p : Place) → eqb k Keys.after ≡ false → Holds (λ t q. within (keyAt k .range) (t .first) ≡ true) (threeLines k own p)
+unfolding threeLines
+three-first k own p e =
+    rw e (then-holds _ _ (numberLine k p) _ (number-line-holds k p) (λ a q h.
+    then-holds _ _ (codedLine (k + 1) own q) _ (coded-holds (k + 1) own q) (λ b r i.
+    then-holds _ _ (codedLine (k + 2) own r) _ (coded-holds (k + 2) own r) (λ n t j. h .0))))
+
 pub three-holds : (k own : ℕ) (p : Place) → eqb (k + 2) Keys.after ≡ false
     → Holds (λ t q. (within (keyAt (k + 2) .range) (t .third) ≡ true) × (q .line ≡ p .line + 3)) (threeLines k own p)
 unfolding threeLines

@@ -19,18 +19,25 @@ ghost use Rattle.scanning.specs.Positions.{foundOf};
 ghost use Rattle.scanning.specs.Masks.{maskOf, fairList};
 ghost use Rattle.lines.specs.Lines.{same, always, predecessors, judgeBy, closed, valued, lineJudged, judgedOf, after, threeOf};
 
-// The places of the keys with which a table, a graph and a node begin, of `nodes` and `after`, and of a limit text's only key.
-pub const PROCESSORS: usize = 0;
+// The places of the keys with which a table of either form, a graph and a node begin, of `nodes`, of the other lines of a node, and of a
+// limit text's only key.
+pub const FORM: usize = 0;
 
-pub const PERIOD: usize = 3;
+pub const PROCESSORS: usize = 1;
 
-pub const BUDGET: usize = 6;
+pub const PERIOD: usize = 4;
 
-pub const NODES: usize = 5;
+pub const NODES: usize = 6;
 
-pub const AFTER: usize = 8;
+pub const BUDGET: usize = 7;
 
-pub const LIMIT: usize = 9;
+pub const LEVEL: usize = 8;
+
+pub const POINT: usize = 9;
+
+pub const AFTER: usize = 10;
+
+pub const LIMIT: usize = 11;
 
 // A line's value, a number or a mask, and the position after the line; where its spelling goes wrong; or that its value is outside its
 // limits or against the predecessor rules, and the position of what is at fault.

@@ -5,9 +5,12 @@ mod reader;
 
 pub use judging::AFTER;
 pub use judging::BUDGET;
+pub use judging::FORM;
+pub use judging::LEVEL;
 pub use judging::LIMIT;
 pub use judging::NODES;
 pub use judging::PERIOD;
+pub use judging::POINT;
 pub use judging::PROCESSORS;
 pub use judging::is_within;
 pub use judging::value_column;

@@ -130,12 +130,12 @@ pub fn three_at(s: &[u8], place: Place, k: usize, own: u32) -> ThreeRead
     three_numbered(s, got, place, k)
 }
 
-// The line of key k by itself, for a text whose lines do not stand by threes.
-pub fn one_at(s: &[u8], place: Place, k: usize) -> LineRead
-    requires { ⌜ (place .line + 1 < 2 ^ 32) × (length (now s) ≤ Limits.tableBytes .to) ⌝ }
-    ensures { λ r. ⌜ lineReadOf (now (s .entry)) r ≡ codedLine k 0 (placeOf (now (s .entry)) place) ⌝ }
+// The line of key k by itself, where lines do not stand by threes in every form or text; of the key `after`, for node number own.
+pub fn one_at(s: &[u8], place: Place, k: usize, own: u32) -> LineRead
+    requires { ⌜ (place .line + 1 < 2 ^ 32) × (own ≤ Limits.nodes .to) × (length (now s) ≤ Limits.tableBytes .to) ⌝ }
+    ensures { λ r. ⌜ lineReadOf (now (s .entry)) r ≡ codedLine k own (placeOf (now (s .entry)) place) ⌝ }
 {
     let at = place.at;
-    let got = line_at(s, at, k, 0);
+    let got = line_at(s, at, k, own);
     numbered(s, got, place, k)
 }

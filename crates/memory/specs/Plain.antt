@@ -11,7 +11,7 @@ use Rattle.memory.specs.declared.plain.PhalandrixGraph.{PhalandrixGraph}
 use Rattle.memory.specs.declared.plain.PhalandrixTable.{PhalandrixTable}
 
 abbrev pub noNode : PhalandrixNode
-noNode = record { budget = 0; level = 0; after = 0 }
+noNode = record { budget = 0; level = 0; point = 0; after = 0 }
 
 abbrev pub noGraph : PhalandrixGraph
 noGraph = record { period = 0; offset = 0; nodes = 0 }
@@ -21,7 +21,7 @@ unfoldable pub numbersIn : ℕ → List ℕ
 numbersIn m = keep (λ (p : ℕ). bit m (p - 1)) (upTo width)
 
 abbrev pub nodeIn : PhalandrixNode → Rules.Node
-nodeIn x = record { budget = x .budget; level = x .level; after = numbersIn (x .after) }
+nodeIn x = record { budget = x .budget; level = x .level; point = x .point; after = numbersIn (x .after) }
 
 -- n nodes from the entry `first` on
 abbrev pub nodesIn : List PhalandrixNode → ℕ → ℕ → List Rules.Node
@@ -37,4 +37,4 @@ graphsIn graph nodes g first (suc left) =
     graphIn nodes first (getD graph g noGraph) ∷ graphsIn graph nodes (suc g) (first + getD graph g noGraph .nodes) left
 
 abbrev pub tableIn : PhalandrixTable → Rules.Table
-tableIn t = record { processors = t .processors; rounds = t .rounds; graphs = graphsIn (t .graph) (t .node) 0 0 (t .graphs) }
+tableIn t = record { form = t .form; processors = t .processors; rounds = t .rounds; graphs = graphsIn (t .graph) (t .node) 0 0 (t .graphs) }

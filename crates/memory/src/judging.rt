@@ -4,60 +4,77 @@ use crate::plain::PhalandrixNode;
 use crate::plain::PhalandrixTable;
 use format::Refusal;
 use lines::BUDGET;
+use lines::FORM;
+use lines::LEVEL;
 use lines::PERIOD;
+use lines::POINT;
 use lines::PROCESSORS;
 use lines::is_within;
 use table::Table;
 ghost use mathlib.Core.Path.{_≡_};
-ghost use Prim.Native.Nat.{_+_, _*_, _^_, _<_, _≤_};
+ghost use Prim.Native.Nat.{_+_, _-_, _*_, _^_, _<_, _≤_};
 ghost use Rattle.schedule.specs.Limits as Limits;
 ghost use Rattle.schedule.specs.WellFormed.{orderly};
-ghost use Rattle.writer.specs.Judging.{nodeAt, nodesAt, successorsAt, graphNodesAt, graphAt, graphsAt, tableAt};
+ghost use Rattle.writer.specs.Judging.{numberAt, afterAt, pointAt, nodeAt, nodesAt, successorsAt, graphNodesAt, graphAt, graphsAt, formAt, tableAt};
 ghost use Rattle.memory.specs.Plain.{numbersIn, nodeIn, nodesIn, graphIn, graphsIn, tableIn};
-ghost use Rattle.memory.specs.Judged.{outsideAt, againstAt, threeAt, judgedAs, judgedOf, namedIn};
+ghost use Rattle.memory.specs.Judged.{outsideAt, againstAt, threeAt, nodeRestAt, judgementOf, judgedOf, headAt, namedIn};
 
-// Line 1 is the first of a table's head, and its graphs begin behind the head's three.
+// Line 1 is a table's first.
 const HEAD: u32 = 1;
-
-const LINES: u32 = 3;
 
 // The writer has no bytes to point at.
 const NO_COLUMN: u32 = 0;
+
+// What passes, with the number of the line behind it; or its refusal.
+pub enum LineJudged {
+    Passes(u32),
+    Refused(Refusal),
+}
 
 pub enum Judged {
     Passes,
     Refused(Refusal),
 }
 
-pub fn outside(line: u32) -> Judged
+pub fn outside(line: u32) -> LineJudged
     ensures { λ r. ⌜ r ≡ outsideAt line ⌝ }
 {
     let column = NO_COLUMN;
-    Judged::Refused(Refusal::OutsideLimits { line, column })
+    LineJudged::Refused(Refusal::OutsideLimits { line, column })
 }
 
-pub fn against(line: u32) -> Judged
+pub fn against(line: u32) -> LineJudged
     ensures { λ r. ⌜ r ≡ againstAt line ⌝ }
 {
     let column = NO_COLUMN;
-    Judged::Refused(Refusal::AgainstPredecessorRules { line, column })
+    LineJudged::Refused(Refusal::AgainstPredecessorRules { line, column })
+}
+
+// The number v of key k.
+pub fn number_judged(k: usize, v: u32, line: u32) -> LineJudged
+    requires { ⌜ line + 1 < 2 ^ 32 ⌝ }
+    ensures { λ r. ⌜ judgementOf r ≡ numberAt k v line ⌝ }
+{
+    if is_within(k, v) {
+        let next = line + 1;
+        LineJudged::Passes(next)
+    } else {
+        outside(line)
+    }
 }
 
 // Three numbers, of key k and the two behind it, on three lines: the head of a table or of a graph.
-pub fn three_judged(k: usize, first: u32, second: u32, third: u32, line: u32) -> Judged
+pub fn three_judged(k: usize, first: u32, second: u32, third: u32, line: u32) -> LineJudged
     requires { ⌜ (k + 2 < 2 ^ 64) × (line + 3 < 2 ^ 32) ⌝ }
-    ensures { λ r. ⌜ judgedAs (line + 3) r ≡ threeAt k first second third line ⌝ }
+    ensures { λ r. ⌜ judgementOf r ≡ threeAt k first second third line ⌝ }
 {
-    if !is_within(k, first) {
-        return outside(line);
+    match number_judged(k, first, line) {
+        LineJudged::Refused(f) => LineJudged::Refused(f),
+        LineJudged::Passes(l) => match number_judged(k + 1, second, l) {
+            LineJudged::Refused(f) => LineJudged::Refused(f),
+            LineJudged::Passes(m) => number_judged(k + 2, third, m),
+        },
     }
-    if !is_within(k + 1, second) {
-        return outside(line + 1);
-    }
-    if !is_within(k + 2, third) {
-        return outside(line + 2);
-    }
-    Judged::Passes
 }
 
 // The predecessors in a mask may be those of node number own: node 1 has none, and no other node has none; and each is below own.
@@ -72,49 +89,82 @@ pub fn is_orderly(own: u32, mask: u32) -> bool
     }
 }
 
-pub fn node_judged(x: PhalandrixNode, own: u32, line: u32) -> Judged
-    requires { ⌜ (1 ≤ own) × (own ≤ Limits.nodes .to) × (line + 3 < 2 ^ 32) ⌝ }
-    ensures { λ r. ⌜ judgedAs (line + 3) r ≡ nodeAt own (nodeIn x) line ⌝ }
+pub fn after_judged(own: u32, mask: u32, line: u32) -> LineJudged
+    requires { ⌜ (1 ≤ own) × (own ≤ Limits.nodes .to) × (line + 1 < 2 ^ 32) ⌝ }
+    ensures { λ r. ⌜ judgementOf r ≡ afterAt own (numbersIn mask) line ⌝ }
 {
-    if !is_within(BUDGET, x.budget) {
-        return outside(line);
+    if is_orderly(own, mask) {
+        let next = line + 1;
+        LineJudged::Passes(next)
+    } else {
+        against(line)
     }
-    if !is_within(BUDGET + 1, x.level) {
-        return outside(line + 1);
+}
+
+// A point is not judged where the form has no line for it.
+pub fn point_judged(form: u32, v: u32, line: u32) -> LineJudged
+    requires { ⌜ line + 1 < 2 ^ 32 ⌝ }
+    ensures { λ r. ⌜ judgementOf r ≡ pointAt form v line ⌝ }
+{
+    if Table::has_line(form, POINT) {
+        number_judged(POINT, v, line)
+    } else {
+        LineJudged::Passes(line)
     }
-    if !is_orderly(own, x.after) {
-        return against(line + 2);
+}
+
+// The lines of a node behind its first two.
+pub fn node_rest_judged(x: PhalandrixNode, form: u32, own: u32, line: u32) -> LineJudged
+    requires { ⌜ (1 ≤ own) × (own ≤ Limits.nodes .to) × (line + 2 < 2 ^ 32) ⌝ }
+    ensures { λ r. ⌜ judgementOf r ≡ nodeRestAt form own (nodeIn x) line ⌝ }
+{
+    match point_judged(form, x.point, line) {
+        LineJudged::Refused(f) => LineJudged::Refused(f),
+        LineJudged::Passes(l) => after_judged(own, x.after, l),
     }
-    Judged::Passes
+}
+
+pub fn node_judged(x: PhalandrixNode, form: u32, own: u32, line: u32) -> LineJudged
+    requires { ⌜ (1 ≤ own) × (own ≤ Limits.nodes .to) × (line + 4 < 2 ^ 32) ⌝ }
+    ensures { λ r. ⌜ judgementOf r ≡ nodeAt form own (nodeIn x) line ⌝ }
+{
+    match number_judged(BUDGET, x.budget, line) {
+        LineJudged::Refused(f) => LineJudged::Refused(f),
+        LineJudged::Passes(l) => match number_judged(LEVEL, x.level, l) {
+            LineJudged::Refused(f) => LineJudged::Refused(f),
+            LineJudged::Passes(m) => node_rest_judged(x, form, own, m),
+        },
+    }
 }
 
 // The n nodes of a graph, from the entry `first` on.
 pub fn nodes_judged(
     nodes: [PhalandrixNode; Table::SERVERS],
+    form: u32,
     first: usize,
     n: u32,
     line: u32,
-) -> Judged
-    requires { ⌜ (first + n ≤ Limits.allNodes .to) × (n ≤ Limits.nodes .to) × (line + 3 * n < 2 ^ 32) ⌝ }
-    ensures { λ r. ⌜ judgedAs (line + 3 * n) r ≡ nodesAt 1 (nodesIn nodes first n) line ⌝ }
+) -> LineJudged
+    requires { ⌜ (first + n ≤ Limits.allNodes .to) × (n ≤ Limits.nodes .to) × (line + 4 * n < 2 ^ 32) ⌝ }
+    ensures { λ r. ⌜ judgementOf r ≡ nodesAt form 1 (nodesIn nodes first n) line ⌝ }
 {
     let mut at = line;
     let mut own: u32 = 1;
     let mut slot = first;
     while own <= n {
         let x = nodes[slot];
-        match node_judged(x, own, at) {
-            Judged::Refused(f) => {
-                return Judged::Refused(f);
+        match node_judged(x, form, own, at) {
+            LineJudged::Refused(f) => {
+                return LineJudged::Refused(f);
             }
-            Judged::Passes => {
-                at += LINES;
+            LineJudged::Passes(l) => {
+                at = l;
                 own += 1;
                 slot += 1;
             }
         }
     }
-    Judged::Passes
+    LineJudged::Passes(at)
 }
 
 // The predecessors that some node's list has.
@@ -140,92 +190,128 @@ pub fn successors_judged(
     first: usize,
     n: u32,
     line: u32,
-) -> Judged
+) -> LineJudged
     requires { ⌜ (first + n ≤ Limits.allNodes .to) × (1 ≤ n) × (n ≤ Limits.nodes .to) × (1 ≤ line) ⌝ }
-    ensures { λ r. ⌜ judgedAs line r ≡ successorsAt (nodesIn nodes first n) line ⌝ }
+    ensures { λ r. ⌜ judgementOf r ≡ successorsAt (nodesIn nodes first n) line ⌝ }
 {
     if numbers::unset_below(named(nodes, first, n), n - 1) == 0 {
-        Judged::Passes
+        LineJudged::Passes(line)
     } else {
         against(line - 1)
     }
 }
 
-// A graph's nodes, behind the `total` nodes of the graphs before it; `nodes` stands on this line.
+// A graph's nodes from this line on, behind the `total` nodes of the graphs before it; `nodes` stands on the line before.
 pub fn graph_nodes_judged(
     nodes: [PhalandrixNode; Table::SERVERS],
+    form: u32,
     total: usize,
     n: u32,
     line: u32,
-) -> Judged
-    requires { ⌜ (total ≤ Limits.allNodes .to) × (1 ≤ n) × (n ≤ Limits.nodes .to) × (line + 1 + 3 * n < 2 ^ 32) ⌝ }
-    ensures { λ r. ⌜ judgedAs (line + 1 + 3 * n) r ≡ graphNodesAt total (nodesIn nodes total n) line (line + 1) ⌝ }
+) -> LineJudged
+    requires { ⌜ (total ≤ Limits.allNodes .to) × (1 ≤ n) × (n ≤ Limits.nodes .to) × (1 ≤ line) × (line + 4 * n < 2 ^ 32) ⌝ }
+    ensures { λ r. ⌜ judgementOf r ≡ graphNodesAt form total (nodesIn nodes total n) (line - 1) line ⌝ }
 {
     if Table::SERVERS < total + n as usize {
-        return outside(line);
+        return outside(line - 1);
     }
-    match nodes_judged(nodes, total, n, line + 1) {
-        Judged::Refused(f) => Judged::Refused(f),
-        Judged::Passes => successors_judged(nodes, total, n, line + 1 + LINES * n),
+    match nodes_judged(nodes, form, total, n, line) {
+        LineJudged::Refused(f) => LineJudged::Refused(f),
+        LineJudged::Passes(l) => successors_judged(nodes, total, n, l),
     }
 }
 
 pub fn graph_judged(
     g: PhalandrixGraph,
     nodes: [PhalandrixNode; Table::SERVERS],
+    form: u32,
     total: usize,
     line: u32,
-) -> Judged
-    requires { ⌜ (total ≤ Limits.allNodes .to) × (line + 3 + 3 * Limits.nodes .to < 2 ^ 32) ⌝ }
-    ensures { λ r. ⌜ judgedAs (line + 3 + 3 * g .nodes) r ≡ graphAt total (graphIn nodes total g) line ⌝ }
+) -> LineJudged
+    requires { ⌜ (total ≤ Limits.allNodes .to) × (line + 3 + 4 * Limits.nodes .to < 2 ^ 32) ⌝ }
+    ensures { λ r. ⌜ judgementOf r ≡ graphAt form total (graphIn nodes total g) line ⌝ }
 {
     let n = g.nodes;
     match three_judged(PERIOD, g.period, g.offset, n, line) {
-        Judged::Refused(f) => Judged::Refused(f),
-        Judged::Passes => graph_nodes_judged(nodes, total, n, line + 2),
+        LineJudged::Refused(f) => LineJudged::Refused(f),
+        LineJudged::Passes(l) => graph_nodes_judged(nodes, form, total, n, l),
     }
 }
 
-// The first n graphs.
+// The first n graphs, from this line on.
 pub fn graphs_judged(
     graph: [PhalandrixGraph; Table::GRAPHS],
     nodes: [PhalandrixNode; Table::SERVERS],
+    form: u32,
     n: u32,
-) -> Judged
-    requires { ⌜ n ≤ Limits.graphs .to ⌝ }
-    ensures { λ r. ⌜ r ≡ judgedOf (graphsAt 0 (graphsIn graph nodes 0 0 n) 4) ⌝ }
+    line: u32,
+) -> LineJudged
+    requires { ⌜ (n ≤ Limits.graphs .to) × (line + n * (3 + 4 * Limits.nodes .to) < 2 ^ 32) ⌝ }
+    ensures { λ r. ⌜ judgementOf r ≡ graphsAt form 0 (graphsIn graph nodes 0 0 n) line ⌝ }
 {
     let mut total: usize = 0;
-    let mut at = HEAD + LINES;
+    let mut at = line;
     let mut g: usize = 0;
     while g < n as usize {
         let x = graph[g];
-        match graph_judged(x, nodes, total, at) {
-            Judged::Refused(f) => {
-                return Judged::Refused(f);
+        match graph_judged(x, nodes, form, total, at) {
+            LineJudged::Refused(f) => {
+                return LineJudged::Refused(f);
             }
-            Judged::Passes => {
-                let own = x.nodes;
-                at += LINES + LINES * own;
-                total += own as usize;
+            LineJudged::Passes(l) => {
+                at = l;
+                total += x.nodes as usize;
                 g += 1;
             }
         }
     }
-    Judged::Passes
+    LineJudged::Passes(at)
+}
+
+// The form: the old one has no line.
+pub fn form_judged(form: u32, line: u32) -> LineJudged
+    requires { ⌜ line + 1 < 2 ^ 32 ⌝ }
+    ensures { λ r. ⌜ judgementOf r ≡ formAt form line ⌝ }
+{
+    if Table::tells_form(form) {
+        number_judged(FORM, form, line)
+    } else {
+        LineJudged::Passes(line)
+    }
+}
+
+// The lines behind that of the form.
+pub fn head_judged(t: PhalandrixTable, line: u32) -> LineJudged
+    requires { ⌜ line ≤ 2 ⌝ }
+    ensures { λ r. ⌜ judgementOf r ≡ headAt (tableIn t) line ⌝ }
+{
+    let n = t.graphs;
+    match three_judged(PROCESSORS, t.processors, t.rounds, n, line) {
+        LineJudged::Refused(f) => LineJudged::Refused(f),
+        LineJudged::Passes(l) => {
+            let graph = t.graph;
+            let nodes = t.node;
+            graphs_judged(graph, nodes, t.form, n, l)
+        }
+    }
+}
+
+// The line left aside.
+pub fn without_line(x: LineJudged) -> Judged
+    ensures { λ r. ⌜ r ≡ judgedOf (judgementOf x) ⌝ }
+{
+    match x {
+        LineJudged::Passes(_) => Judged::Passes,
+        LineJudged::Refused(f) => Judged::Refused(f),
+    }
 }
 
 // The whole table.
 pub fn table_judged(t: PhalandrixTable) -> Judged
     ensures { λ r. ⌜ r ≡ judgedOf (tableAt (tableIn t) 1) ⌝ }
 {
-    let n = t.graphs;
-    match three_judged(PROCESSORS, t.processors, t.rounds, n, HEAD) {
-        Judged::Refused(f) => Judged::Refused(f),
-        Judged::Passes => {
-            let graph = t.graph;
-            let nodes = t.node;
-            graphs_judged(graph, nodes, n)
-        }
+    match form_judged(t.form, HEAD) {
+        LineJudged::Refused(f) => Judged::Refused(f),
+        LineJudged::Passes(l) => without_line(head_judged(t, l)),
     }
 }

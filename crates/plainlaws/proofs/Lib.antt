@@ -1,4 +1,3 @@
-pub mod Points
 pub mod TableWalks
 pub mod Reports
 pub mod TableLooks

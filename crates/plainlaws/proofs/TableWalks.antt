@@ -21,11 +21,10 @@ use Rattle.ledger.specs.declared.Walk.{Walk}
 use Rattle.ledger.specs.Walking.{walkOf}
 use Rattle.ledgerlaws.proofs.Walked.{stop, AtStop, BeforeStop, walked-is}
 use Rattle.plainlaws.specs.Walks.{walkOfTable}
-use Rattle.plainlaws.proofs.Points.{table-pointed}
 
 module _ (U : Table) (ok : T (wellFormed U)) (short : hyperperiod U ≤ Limits.hyperperiod .to) where
   pub table-laid : Laid (boxOf U) (planOf (memoryOf U)) (offsetsOf (memoryOf U))
-  table-laid = record { fits = plan-fits U ok; offset = offsets-fit U ok; point = table-pointed U }
+  table-laid = record { fits = plan-fits U ok; offset = offsets-fit U ok }
 
   pub table-walked : (asked : ℕ)
       → (((stop (boxOf U)) .ticks ≤ asked) × AtStop (boxOf U) (walkOfTable (codedAdmission (admitted U)) asked))
@@ -34,7 +33,7 @@ module _ (U : Table) (ok : T (wellFormed U)) (short : hyperperiod U ≤ Limits.h
   table-walked asked =
       let M = memoryOf U in
       let X = boxOf U in
-      let rounds-are : M .rounds ≡ X .rounds = rounds-stay (U .graphs) (Fresh.emptyTable (U .processors) (U .rounds)) in
+      let rounds-are : M .rounds ≡ X .rounds = rounds-stay (U .graphs) (Fresh.emptyTable (U .form) (U .processors) (U .rounds)) in
       let same : walkOfTable (codedAdmission (admitted U)) asked ≡ walkOf (planOf M) (offsetsOf M) (X .origin) (X .hyper) (X .rounds) asked =
       ap (λ (o : ℕ). walkOf (planOf M) (offsetsOf M) o (X .hyper) (M .rounds) asked) (largest-fits U ok)
       ∙ ap (λ (r : ℕ). walkOf (planOf M) (offsetsOf M) (X .origin) (X .hyper) r asked) rounds-are in

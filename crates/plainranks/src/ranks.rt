@@ -14,25 +14,33 @@ pub fn ready_to(complete: u32, released: u32, level: u8) -> u32
     if released < most { released } else { most }
 }
 
-// Rule 5: whether a server job with deadline d stands before one with another deadline; `earlier` says that its server has the earlier place,
+// Rule 5: whether a server job with priority d stands before one with another priority; `earlier` says that its server has the earlier place,
 // that is the lower graph number or, in the same graph, the lower node number.
-pub fn is_before(d: u64, deadline: u64, earlier: bool) -> bool
-    ensures { λ r. ⌜ r ≡ Mirror.isBefore d deadline earlier ⌝ }
+pub fn is_before(d: u64, priority: u64, earlier: bool) -> bool
+    ensures { λ r. ⌜ r ≡ Mirror.isBefore d priority earlier ⌝ }
 {
-    if d == deadline { earlier } else { d < deadline }
+    if d == priority { earlier } else { d < priority }
 }
 
-// How many of one server's ready server jobs, those after number `from` up to `to`, stand before one with that deadline.
-pub fn before_in(offset: u32, period: u32, from: u32, to: u32, deadline: u64, earlier: bool) -> u32
-    ensures { λ r. ⌜ r ≡ Mirror.beforeBy offset period from deadline earlier (to - from) ⌝ }
+// How many of one server's ready server jobs, those after number `from` up to `to`, stand before one with that priority.
+pub fn before_in(
+    offset: u32,
+    period: u32,
+    point: u32,
+    from: u32,
+    to: u32,
+    priority: u64,
+    earlier: bool,
+) -> u32
+    ensures { λ r. ⌜ r ≡ Mirror.beforeBy offset period point from priority earlier (to - from) ⌝ }
 {
     let mut count: u32 = 0;
     let mut k = from;
     while k < to {
         k += 1;
         if is_before(
-            plainsteps::instant_after(offset, period, k),
-            deadline,
+            plainsteps::priority_of(offset, period, point, k),
+            priority,
             earlier,
         ) {
             count = numbers::further(count, 1);
@@ -45,6 +53,7 @@ pub fn before_in(offset: u32, period: u32, from: u32, to: u32, deadline: u64, ea
 pub fn rank<'a>(
     offsets: &'a [u32; Table::SERVERS],
     period: &'a [u32; Table::SERVERS],
+    point: &'a [u32; Table::SERVERS],
     level: &'a [u8; Table::SERVERS],
     complete: &'a [u32; Table::SERVERS],
     released: &'a [u32; Table::SERVERS],
@@ -53,14 +62,22 @@ pub fn rank<'a>(
     k: u32,
 ) -> u32
     requires { ⌜ (n ≤ places) × (i < places) ⌝ }
-    ensures { λ r. ⌜ r ≡ Mirror.rank (now (offsets .entry)) (now (period .entry)) (now (level .entry)) (now (complete .entry)) (now (released .entry)) n i k ⌝ }
+    ensures { λ r. ⌜ r ≡ Mirror.rank (now (offsets .entry)) (now (period .entry)) (now (point .entry)) (now (level .entry)) (now (complete .entry)) (now (released .entry)) n i k ⌝ }
 {
-    let deadline = plainsteps::instant_after(offsets[i], period[i], k);
+    let priority = plainsteps::priority_of(offsets[i], period[i], point[i], k);
     let mut count: u32 = 0;
     let mut m: usize = 0;
     while m < n {
         let to = ready_to(complete[m], released[m], level[m]);
-        let before = before_in(offsets[m], period[m], complete[m], to, deadline, m < i);
+        let before = before_in(
+            offsets[m],
+            period[m],
+            point[m],
+            complete[m],
+            to,
+            priority,
+            m < i,
+        );
         count = numbers::further(count, before);
         m += 1;
     }

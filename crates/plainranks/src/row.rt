@@ -17,6 +17,7 @@ ghost use Rattle.ledger.specs.Showing as Shown;
 pub fn found_in<'a>(
     offsets: &'a [u32; Table::SERVERS],
     period: &'a [u32; Table::SERVERS],
+    point: &'a [u32; Table::SERVERS],
     level: &'a [u8; Table::SERVERS],
     complete: &'a [u32; Table::SERVERS],
     released: &'a [u32; Table::SERVERS],
@@ -25,14 +26,14 @@ pub fn found_in<'a>(
     r: u32,
 ) -> u32
     requires { ⌜ (n ≤ places) × (i < places) ⌝ }
-    ensures { λ k. ⌜ k ≡ Mirror.foundIn (now (offsets .entry)) (now (period .entry)) (now (level .entry)) (now (complete .entry)) (now (released .entry)) n i r ⌝ }
+    ensures { λ k. ⌜ k ≡ Mirror.foundIn (now (offsets .entry)) (now (period .entry)) (now (point .entry)) (now (level .entry)) (now (complete .entry)) (now (released .entry)) n i r ⌝ }
 {
     let to = ready_to(complete[i], released[i], level[i]);
     let mut number: u32 = 0;
     let mut k = complete[i];
     while k < to {
         k += 1;
-        if rank(offsets, period, level, complete, released, n, i, k) == r {
+        if rank(offsets, period, point, level, complete, released, n, i, k) == r {
             number = k;
         }
     }
@@ -43,6 +44,7 @@ pub fn found_in<'a>(
 pub fn found<'a>(
     offsets: &'a [u32; Table::SERVERS],
     period: &'a [u32; Table::SERVERS],
+    point: &'a [u32; Table::SERVERS],
     level: &'a [u8; Table::SERVERS],
     complete: &'a [u32; Table::SERVERS],
     released: &'a [u32; Table::SERVERS],
@@ -50,7 +52,7 @@ pub fn found<'a>(
     r: u32,
 ) -> Found
     requires { ⌜ n ≤ places ⌝ }
-    ensures { λ x. ⌜ (x ≡ Mirror.found (now (offsets .entry)) (now (period .entry)) (now (level .entry)) (now (complete .entry)) (now (released .entry)) n r) × (x .place < places) ⌝ }
+    ensures { λ x. ⌜ (x ≡ Mirror.found (now (offsets .entry)) (now (period .entry)) (now (point .entry)) (now (level .entry)) (now (complete .entry)) (now (released .entry)) n r) × (x .place < places) ⌝ }
 {
     let mut x = Found {
         place: 0,
@@ -58,7 +60,7 @@ pub fn found<'a>(
     };
     let mut i: usize = 0;
     while i < n {
-        let k = found_in(offsets, period, level, complete, released, n, i, r);
+        let k = found_in(offsets, period, point, level, complete, released, n, i, r);
         if 0 < k {
             x = Found {
                 place: i,
@@ -109,6 +111,7 @@ pub fn row_of(plan: Plan, offsets: [u32; Table::SERVERS], l: Ledger) -> Row
         let x = found(
             &offsets,
             &plan.period,
+            &plan.point,
             &plan.level,
             &l.complete,
             &l.released,

@@ -15,6 +15,7 @@ pub fn run_server<'a>(
     old: &'a [u32; Ledger::SLOTS],
     offsets: &'a [u32; Table::SERVERS],
     period: &'a [u32; Table::SERVERS],
+    point: &'a [u32; Table::SERVERS],
     level: &'a [u8; Table::SERVERS],
     complete: &'a [u32; Table::SERVERS],
     released: &'a [u32; Table::SERVERS],
@@ -23,13 +24,13 @@ pub fn run_server<'a>(
     i: usize,
 )
     requires { ⌜ (n ≤ places) × (i < places) ⌝ }
-    ensures { λ r. ⌜ now (used .exit) ≡ Mirror.runServer (now (offsets .entry)) (now (period .entry)) (now (level .entry)) (now (complete .entry)) (now (released .entry)) (now (old .entry)) n p i (now (used .entry)) ⌝ }
+    ensures { λ r. ⌜ now (used .exit) ≡ Mirror.runServer (now (offsets .entry)) (now (period .entry)) (now (point .entry)) (now (level .entry)) (now (complete .entry)) (now (released .entry)) (now (old .entry)) n p i (now (used .entry)) ⌝ }
 {
     let to = ready_to(complete[i], released[i], level[i]);
     let mut k = complete[i];
     while k < to {
         k += 1;
-        if (rank(offsets, period, level, complete, released, n, i, k) as usize) < p {
+        if (rank(offsets, period, point, level, complete, released, n, i, k) as usize) < p {
             let s = plainsteps::slot(i, k);
             used[s] = numbers::further(old[s], 1);
         }
@@ -49,6 +50,7 @@ pub fn run(plan: Plan, offsets: [u32; Table::SERVERS], l: Ledger) -> Ledger
             &l.used,
             &offsets,
             &plan.period,
+            &plan.point,
             &plan.level,
             &l.complete,
             &l.released,

@@ -26,6 +26,9 @@ use Rattle.ledger.specs.Releasing.{allFinished, linkNow, linkedAfter, releasesA
 pub sum-fits : {o a b : ℕ} → o < 2 ^ 32 → a < 2 ^ 32 → b < 2 ^ 32 → o + a * b < 2 ^ 64
 sum-fits {o} {a} {b} h k l = let m : a * b ≤ a * (2 ^ 32 - 1) = mul-le-mul-left a (omega arith) in omega arith
 
+pub three-fit : {o a b p : ℕ} → o < 2 ^ 32 → a < 2 ^ 32 → b < 2 ^ 32 → p < 2 ^ 32 → o + a * b + p < 2 ^ 64
+three-fit {o} {a} {b} {p} h k l q = let m : a * b ≤ a * (2 ^ 32 - 1) = mul-le-mul-left a (omega arith) in omega arith
+
 -- the pending server jobs of one server: k is the last that was looked at
 module _ (used link : List ℕ) (i : ℕ) (from : Done) (budget offset period t : ℕ) where
   abbrev upTo : ℕ → Done

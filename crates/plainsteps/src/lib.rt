@@ -9,6 +9,7 @@ pub use backlog::backlogged;
 pub use finishing::finish;
 pub use instants::instant_after;
 pub use instants::less;
+pub use instants::priority_of;
 pub use instants::slot;
 pub use instants::wide;
 pub use releasing::release;

@@ -99,8 +99,9 @@ module _ (M : Table) (Gs : List Rules.Graph) (laid : LaidOut M Gs) (few : length
           budget = min (x .budget) most16;
           after = atPlaces (maskOf (x .after)) first;
           level = min (x .level) most8;
+          point = x .point;
           step = min (G .period) most16 * places;
-          lead = min (G .period) most16 * places + (first + q);
+          lead = min (x .point) most16 * places + (first + q);
           room = cond (eqb (q + 1) (length (G .nodes))) Limits.unfinished most8;
           node = q + 1;
         }

@@ -42,7 +42,7 @@ module _ (X : Rules.Table) (ok : T (wellFormed X)) where
 
   processors : planOf (memoryOf X) .processors ≡ X .processors
   unfolding planTo
-  processors = processors-stay Gs (Fresh.emptyTable (X .processors) (X .rounds))
+  processors = processors-stay Gs (Fresh.emptyTable (X .form) (X .processors) (X .rounds))
 
   nodes : planOf (memoryOf X) .nodes ≡ nodesIn Gs
   unfolding planTo

@@ -18,7 +18,7 @@ use Rattle.rules.proofs.ReadWellFormed.{nodesIn}
 
 -- what stands outside of the lists
 abbrev pub noNode : Node
-noNode = record { budget = 0; level = 0; after = [] }
+noNode = record { budget = 0; level = 0; point = 0; after = [] }
 
 abbrev pub noGraph : Graph
 noGraph = record { period = 0; offset = 0; nodes = [] }
@@ -102,6 +102,7 @@ some-at p (x ∷ xs) d e =
 pub record NodeFormed (own : ℕ) (x : Node) : Type 0 where
   pub budget : within Limits.budget (x .budget) ≡ true
   pub level : within Limits.level (x .level) ≡ true
+  pub point : within Limits.point (x .point) ≡ true
   pub order : orderly own (x .after) ≡ true
 
 pub node-at : (v : ℕ) (xs : List Node) (q : ℕ) → q < length xs → nodesFormed v xs ≡ true → NodeFormed (v + q) (getD xs q noNode)
@@ -109,6 +110,6 @@ node-at v [] q h e = absurd (not-suc-le-zero h)
 node-at v (x ∷ xs) zero h e =
     let f = node-formed v x xs e in
     let z : v + 0 ≡ v = omega arith in
-    rw z (record { budget = f .budget; level = f .level; order = f .order })
+    rw z (record { budget = f .budget; level = f .level; point = f .point; order = f .order })
 node-at v (x ∷ xs) (suc q) h e =
     let z : v + suc q ≡ suc v + q = omega arith in rw z (node-at (suc v) xs q (omega arith) (node-formed v x xs e .others))

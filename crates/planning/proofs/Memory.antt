@@ -77,7 +77,7 @@ pub record LaidOut (t : Table) (Gs : List Rules.Graph) : Type 0 where
 
 pub laid-out : (X : Rules.Table) → length (X .graphs) ≤ Limits.graphs .to → nodesIn (X .graphs) ≤ Limits.allNodes .to → LaidOut (memoryOf X) (X .graphs)
 laid-out X few small =
-    let t = Fresh.emptyTable (X .processors) (X .rounds) in
+    let t = Fresh.emptyTable (X .form) (X .processors) (X .rounds) in
     let Gs = X .graphs in
     record {
       graphs = graphs-counted Gs t ∙ omega arith;

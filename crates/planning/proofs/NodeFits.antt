@@ -141,10 +141,12 @@ module _ (X : Rules.Table) (ok : T (wellFormed X)) where
       let level = within-limits Limits.level (x .level) (n .level) in
       let period = within-limits Limits.period (G .period) (graph-ok g h .period) in
       let same : srv S (f + q) .period ≡ G .period = ap (λ (s : Server). s .period) e in
-      let point : srv S (f + q) .point ≡ G .period = ap (λ (s : Server). s .point) e in
+      let low = within-limits Limits.point (x .point) (n .point) in
+      let point : srv S (f + q) .point ≡ x .point = ap (λ (s : Server). s .point) e in
       let high : srv S (f + q) .level ≡ x .level = ap (λ (s : Server). s .level) e in
       let long : srv S (f + q) .budget ≡ x .budget = ap (λ (s : Server). s .budget) e in
       let narrow : min (G .period) most16 ≡ G .period = omega arith in
+      let near : min (x .point) most16 ≡ x .point = omega (arith, low .1) in
       record {
         budget = entry (λ (w : Entry). w .budget) ∙ omega arith;
         room = entry (λ (w : Entry). w .room) ∙ sym (ap (λ (b : Bool). cond b Limits.unfinished (2 ^ 8 - 1)) (is-sink g q h l));
@@ -153,9 +155,10 @@ module _ (X : Rules.Table) (ok : T (wellFormed X)) where
             ∙ sym (ap (λ (s : Server). any? (eqb p) (s .predecessors)) e);
         level = entry (λ (w : Entry). w .level) ∙ omega arith;
         period = period-entry M Gs laid few room some g q h l ∙ sym same;
+        point = entry (λ (w : Entry). w .point) ∙ sym point;
         step = entry (λ (w : Entry). w .step) ∙ rw (narrow, same);
-        lead = entry (λ (w : Entry). w .lead) ∙ rw (narrow, point);
-        point-most = omega arith;
+        lead = entry (λ (w : Entry). w .lead) ∙ rw (near, point);
+        point-most = omega (arith, low .1);
         budget-some = omega arith;
         level-some = omega arith;
         level-most = omega arith;

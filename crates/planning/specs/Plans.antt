@@ -26,8 +26,9 @@ entryOf x y i =
       budget = min (x .budget) most16;
       after = atPlaces (x .after) (firstFor y i);
       level = min (x .level) most8;
+      point = x .point;
       step = stepOf y;
-      lead = stepOf y + i;
+      lead = min (x .point) most16 * places + i;
       room = cond (lastAt y i) Limits.unfinished most8;
       node = numberIn y i;
     }
@@ -41,6 +42,7 @@ noPlan processors nodes =
       after = replicate places 0;
       level = replicate places 0;
       period = replicate places 0;
+      point = replicate places 0;
       step = replicate places 0;
       lead = replicate places 0;
       room = replicate places 0;
@@ -66,6 +68,7 @@ module _ (t : Table) where
         after = byPlace (λ (i : ℕ). entryAt i .after) n;
         level = byPlace (λ (i : ℕ). entryAt i .level) n;
         period = byPlace (λ (i : ℕ). graphAt t i .period) n;
+        point = byPlace (λ (i : ℕ). entryAt i .point) n;
         step = byPlace (λ (i : ℕ). entryAt i .step) n;
         lead = byPlace (λ (i : ℕ). entryAt i .lead) n;
         room = byPlace (λ (i : ℕ). entryAt i .room) n;

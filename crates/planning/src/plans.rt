@@ -18,6 +18,7 @@ pub struct Entry {
     pub budget: u16,
     pub after: u32,
     pub level: u8,
+    pub point: u32,
     pub step: u32,
     pub lead: u32,
     pub room: u8,
@@ -31,6 +32,7 @@ pub fn entry_of(x: Node, y: Graph, i: usize) -> Entry
 {
     let number = number_in(y, i);
     let step = narrow16(y.period) as u32 * Table::ALL_NODES_TO;
+    let lead = narrow16(x.point) as u32 * Table::ALL_NODES_TO + i as u32;
     let room = if number == y.nodes {
         Table::UNFINISHED as u8
     } else {
@@ -40,8 +42,9 @@ pub fn entry_of(x: Node, y: Graph, i: usize) -> Entry
         budget: narrow16(x.budget),
         after: at_places(x.after, (i + 1 - number) as u32),
         level: narrow8(x.level),
+        point: x.point,
         step,
-        lead: step + i as u32,
+        lead,
         room,
         node: number as u8,
     }
@@ -58,6 +61,7 @@ pub fn no_plan(processors: u32, nodes: usize) -> Plan
         after: [0u32; Table::SERVERS],
         level: [0u8; Table::SERVERS],
         period: [0u32; Table::SERVERS],
+        point: [0u32; Table::SERVERS],
         step: [0u32; Table::SERVERS],
         lead: [0u32; Table::SERVERS],
         room: [0u8; Table::SERVERS],
@@ -81,6 +85,7 @@ pub fn plan_of(table: Table) -> Plan
         p.after[i] = e.after;
         p.level[i] = e.level;
         p.period[i] = y.period;
+        p.point[i] = e.point;
         p.step[i] = e.step;
         p.lead[i] = e.lead;
         p.room[i] = e.room;

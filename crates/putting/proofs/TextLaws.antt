@@ -1,15 +1,17 @@
 -- A text with bytes behind it is the text, and then the bytes; so each part of a table's text is two parts one behind the other.
 use mathlib.Core.Path.{_≡_, refl, sym, ap, _∙_}
+use mathlib.Core.Bool.{true, false}
 use mathlib.Core.List.{List, [], _∷_, _++_, append-assoc, append-nil}
 use Prim.Native.Nat.{ℕ, _+_}
 use native.Mathlib.Omega.{arith}
 use lib.ListN.{length}
 use lib.Seq.{append-snoc}
 use Rattle.schedule.specs.Table.{Node, Graph}
+use Rattle.schedule.proofs.Tests.{by-test}
 use Rattle.format.specs.Bytes.{bytes, lineFeed, equals, comma, decimal}
 use Rattle.format.specs.Keys as Keys
-use Rattle.format.specs.Keys.{keyAt}
-use Rattle.writer.specs.Writing.{numbersText, listText, headingText, numberText, afterText, nodeText, nodesText, graphHead, graphText, graphsText, tableHead, writtenOf}
+use Rattle.format.specs.Keys.{keyAt, hasLine, tellsForm}
+use Rattle.writer.specs.Writing.{numbersText, listText, headingText, numberText, afterText, pointText, nodeText, nodesText, graphHead, graphText, graphsText, formText, tableHead, writtenOf}
 use Rattle.memory.specs.declared.plain.PhalandrixNode.{PhalandrixNode}
 use Rattle.memory.specs.declared.plain.PhalandrixGraph.{PhalandrixGraph}
 use Rattle.memory.specs.declared.plain.PhalandrixTable.{PhalandrixTable}
@@ -17,7 +19,7 @@ use Rattle.memory.specs.Plain.{numbersIn, nodeIn, nodesIn, graphIn, graphsIn, t
 use Rattle.memory.proofs.Named.{nodes-counted}
 use Rattle.memory.proofs.GraphCounts.{graphs-counted}
 use Rattle.writing.specs.Line.{ended}
-use Rattle.putting.specs.Texts.{heading, numberLine, twoLines, threeLines, listEnded, afterLine, nodeLines, nodesLines, graphLines, graphsLines, tableLines}
+use Rattle.putting.specs.Texts.{heading, numberLine, twoLines, threeLines, listEnded, afterLine, pointLine, restLines, nodeLines, nodesLines, graphLines, graphsLines, formLine, behindLines, tableLines}
 
 heading-rest : (k : ℕ) (rest : List ℕ) → headingText k rest ≡ heading k ++ rest
 unfolding headingText
@@ -65,32 +67,66 @@ three-rest k a b c rest =
     ∙ sym (append-assoc (twoLines k a b) (numberLine (k + 2) c) rest)
     ∙ ap (λ (l : List ℕ). l ++ rest) (sym (two-rest k a b (numberLine (k + 2) c)))
 
-node-rest : (x : Node) (rest : List ℕ) → nodeText x rest ≡ nodeText x [] ++ rest
+-- a line that a form has or has not
+point-rest : (f v : ℕ) (rest : List ℕ) → pointText f v rest ≡ pointLine f v ++ rest
+unfolding pointText
+point-rest f v rest = by-test (hasLine f Keys.point) (λ e. rw e (number-rest Keys.point v rest)) (λ e. rw e refl)
+
+form-rest : (f : ℕ) (rest : List ℕ) → formText f rest ≡ formLine f ++ rest
+unfolding formText
+form-rest f rest = by-test (tellsForm f) (λ e. rw e (number-rest Keys.form f rest)) (λ e. rw e refl)
+
+behind-rest : (f v : ℕ) (vs rest : List ℕ) → pointText f v (afterText vs rest) ≡ pointText f v (afterText vs []) ++ rest
+behind-rest f v vs rest =
+    ap (pointText f v) (after-rest vs rest)
+    ∙ point-rest f v (afterText vs [] ++ rest)
+    ∙ sym (append-assoc (pointLine f v) (afterText vs []) rest)
+    ∙ ap (λ (l : List ℕ). l ++ rest) (sym (point-rest f v (afterText vs [])))
+
+node-rest : (f : ℕ) (x : Node) (rest : List ℕ) → nodeText f x rest ≡ nodeText f x [] ++ rest
 unfolding nodeText
-node-rest x rest =
-    ap (λ (l : List ℕ). numberText Keys.budget (x .budget) (numberText Keys.level (x .level) l)) (after-rest (x .after) rest)
-    ∙ two-rest Keys.budget (x .budget) (x .level) (afterText (x .after) [] ++ rest)
-    ∙ sym (append-assoc (twoLines Keys.budget (x .budget) (x .level)) (afterText (x .after) []) rest)
-    ∙ ap (λ (l : List ℕ). l ++ rest) (sym (two-rest Keys.budget (x .budget) (x .level) (afterText (x .after) [])))
+node-rest f x rest =
+    let behind = pointText f (x .point) (afterText (x .after) []) in
+    ap (λ (l : List ℕ). numberText Keys.budget (x .budget) (numberText Keys.level (x .level) l)) (behind-rest f (x .point) (x .after) rest)
+    ∙ two-rest Keys.budget (x .budget) (x .level) (behind ++ rest)
+    ∙ sym (append-assoc (twoLines Keys.budget (x .budget) (x .level)) behind rest)
+    ∙ ap (λ (l : List ℕ). l ++ rest) (sym (two-rest Keys.budget (x .budget) (x .level) behind))
 
-nodes-rest : (xs : List Node) (rest : List ℕ) → nodesText xs rest ≡ nodesText xs [] ++ rest
+nodes-rest : (f : ℕ) (xs : List Node) (rest : List ℕ) → nodesText f xs rest ≡ nodesText f xs [] ++ rest
 unfolding nodesText
-nodes-rest [] rest = refl
-nodes-rest (x ∷ xs) rest =
-    ap (nodeText x) (nodes-rest xs rest)
-    ∙ node-rest x (nodesText xs [] ++ rest)
-    ∙ sym (append-assoc (nodeText x []) (nodesText xs []) rest)
-    ∙ ap (λ (l : List ℕ). l ++ rest) (sym (node-rest x (nodesText xs [])))
+nodes-rest f [] rest = refl
+nodes-rest f (x ∷ xs) rest =
+    ap (nodeText f x) (nodes-rest f xs rest)
+    ∙ node-rest f x (nodesText f xs [] ++ rest)
+    ∙ sym (append-assoc (nodeText f x []) (nodesText f xs []) rest)
+    ∙ ap (λ (l : List ℕ). l ++ rest) (sym (node-rest f x (nodesText f xs [])))
 
-graph-rest : (G : Graph) (rest : List ℕ) → graphText G rest ≡ graphText G [] ++ rest
+graph-rest : (f : ℕ) (G : Graph) (rest : List ℕ) → graphText f G rest ≡ graphText f G [] ++ rest
 unfolding graphText graphHead
-graph-rest G rest =
+graph-rest f G rest =
     let n = length (G .nodes) in
     let head = threeLines Keys.period (G .period) (G .offset) n in
-    three-rest Keys.period (G .period) (G .offset) n (nodesText (G .nodes) rest)
-    ∙ ap (λ (l : List ℕ). head ++ l) (nodes-rest (G .nodes) rest)
-    ∙ sym (append-assoc head (nodesText (G .nodes) []) rest)
-    ∙ ap (λ (l : List ℕ). l ++ rest) (sym (three-rest Keys.period (G .period) (G .offset) n (nodesText (G .nodes) [])))
+    three-rest Keys.period (G .period) (G .offset) n (nodesText f (G .nodes) rest)
+    ∙ ap (λ (l : List ℕ). head ++ l) (nodes-rest f (G .nodes) rest)
+    ∙ sym (append-assoc head (nodesText f (G .nodes) []) rest)
+    ∙ ap (λ (l : List ℕ). l ++ rest) (sym (three-rest Keys.period (G .period) (G .offset) n (nodesText f (G .nodes) [])))
+
+-- as code writes it: the line that a form has, and nothing where it has none
+pub point-there : (f v : ℕ) → hasLine f Keys.point ≡ true → numberLine Keys.point v ≡ pointLine f v
+unfolding pointText
+point-there f v e = rw e refl
+
+pub point-absent : (f v : ℕ) → hasLine f Keys.point ≡ false → [] ≡ pointLine f v
+unfolding pointText
+point-absent f v e = rw e refl
+
+pub form-there : (f : ℕ) → tellsForm f ≡ true → numberLine Keys.form f ≡ formLine f
+unfolding formText
+form-there f e = rw e refl
+
+pub form-absent : (f : ℕ) → tellsForm f ≡ false → [] ≡ formLine f
+unfolding formText
+form-absent f e = rw e refl
 
 -- the two parts of each text, as code writes them
 pub number-parts : (k v : ℕ) → heading k ++ ended v lineFeed ≡ numberLine k v
@@ -109,28 +145,35 @@ pub after-parts : (mask : ℕ) → heading Keys.after ++ listEnded mask ≡ afte
 unfolding afterText
 after-parts mask = sym (heading-rest Keys.after (listEnded mask))
 
-pub node-parts : (x : PhalandrixNode) → twoLines Keys.budget (x .budget) (x .level) ++ afterLine (x .after) ≡ nodeLines x
+pub rest-parts : (f : ℕ) (x : PhalandrixNode) → pointLine f (x .point) ++ afterLine (x .after) ≡ restLines f x
+rest-parts f x = sym (point-rest f (x .point) (afterLine (x .after)))
+
+pub node-parts : (f : ℕ) (x : PhalandrixNode) → twoLines Keys.budget (x .budget) (x .level) ++ restLines f x ≡ nodeLines f x
 unfolding nodeText
-node-parts x = sym (two-rest Keys.budget (x .budget) (x .level) (afterLine (x .after)))
+node-parts f x = sym (two-rest Keys.budget (x .budget) (x .level) (restLines f x))
 
-pub graph-parts : (g : PhalandrixGraph) (nodes : List PhalandrixNode) (first : ℕ)
-    → threeLines Keys.period (g .period) (g .offset) (g .nodes) ++ nodesLines nodes first (g .nodes) ≡ graphLines g nodes first
+pub graph-parts : (f : ℕ) (g : PhalandrixGraph) (nodes : List PhalandrixNode) (first : ℕ)
+    → threeLines Keys.period (g .period) (g .offset) (g .nodes) ++ nodesLines f nodes first (g .nodes) ≡ graphLines f g nodes first
 unfolding graphText graphHead
-graph-parts g nodes first =
-    rw (nodes-counted nodes first (g .nodes)) (sym (three-rest Keys.period (g .period) (g .offset) (g .nodes) (nodesLines nodes first (g .nodes))))
+graph-parts f g nodes first =
+    rw (nodes-counted nodes first (g .nodes)) (sym (three-rest Keys.period (g .period) (g .offset) (g .nodes) (nodesLines f nodes first (g .nodes))))
 
-pub table-parts : (t : PhalandrixTable)
-    → threeLines Keys.processors (t .processors) (t .rounds) (t .graphs) ++ graphsLines (t .graph) (t .node) (t .graphs) ≡ tableLines t
-unfolding writtenOf tableHead
-table-parts t =
+pub behind-parts : (t : PhalandrixTable)
+    → threeLines Keys.processors (t .processors) (t .rounds) (t .graphs) ++ graphsLines (t .form) (t .graph) (t .node) (t .graphs) ≡ behindLines t
+unfolding tableHead
+behind-parts t =
     rw (graphs-counted (t .graph) (t .node) 0 0 (t .graphs))
-    (sym (three-rest Keys.processors (t .processors) (t .rounds) (t .graphs) (graphsLines (t .graph) (t .node) (t .graphs))))
+    (sym (three-rest Keys.processors (t .processors) (t .rounds) (t .graphs) (graphsLines (t .form) (t .graph) (t .node) (t .graphs))))
+
+pub table-parts : (t : PhalandrixTable) → formLine (t .form) ++ behindLines t ≡ tableLines t
+unfolding writtenOf
+table-parts t = sym (form-rest (t .form) (behindLines t))
 
 -- one more node or graph
-pub node-before : (x : Node) (xs : List Node) → nodesText (x ∷ xs) [] ≡ nodeText x [] ++ nodesText xs []
+pub node-before : (f : ℕ) (x : Node) (xs : List Node) → nodesText f (x ∷ xs) [] ≡ nodeText f x [] ++ nodesText f xs []
 unfolding nodesText
-node-before x xs = node-rest x (nodesText xs [])
+node-before f x xs = node-rest f x (nodesText f xs [])
 
-pub graph-before : (G : Graph) (Gs : List Graph) → graphsText (G ∷ Gs) [] ≡ graphText G [] ++ graphsText Gs []
+pub graph-before : (f : ℕ) (G : Graph) (Gs : List Graph) → graphsText f (G ∷ Gs) [] ≡ graphText f G [] ++ graphsText f Gs []
 unfolding graphsText
-graph-before G Gs = graph-rest G (graphsText Gs [])
+graph-before f G Gs = graph-rest f G (graphsText f Gs [])

@@ -5,7 +5,7 @@ use lib.ListN.{length}
 use Rattle.schedule.specs.Lists.{sum}
 use Rattle.schedule.specs.Table.{Graph}
 use Rattle.format.specs.Bytes.{lineFeed}
-use Rattle.writer.specs.Writing.{listText, headingText, numberText, afterText, nodeText, nodesText, graphText, graphsText, writtenOf}
+use Rattle.writer.specs.Writing.{listText, headingText, numberText, afterText, pointText, nodeText, nodesText, graphText, graphsText, formText, tableHead, writtenOf}
 use Rattle.memory.specs.declared.plain.PhalandrixNode.{PhalandrixNode}
 use Rattle.memory.specs.declared.plain.PhalandrixGraph.{PhalandrixGraph}
 use Rattle.memory.specs.declared.plain.PhalandrixTable.{PhalandrixTable}
@@ -31,17 +31,31 @@ listEnded mask = listText (numbersIn mask) (lineFeed ∷ [])
 abbrev pub afterLine : ℕ → List ℕ
 afterLine mask = afterText (numbersIn mask) []
 
-abbrev pub nodeLines : PhalandrixNode → List ℕ
-nodeLines x = nodeText (nodeIn x) []
+-- in a table of form f: a point, and the lines of a node behind its first two
+abbrev pub pointLine : ℕ → ℕ → List ℕ
+pointLine f v = pointText f v []
 
-abbrev pub nodesLines : List PhalandrixNode → ℕ → ℕ → List ℕ
-nodesLines nodes first n = nodesText (nodesIn nodes first n) []
+abbrev pub restLines : ℕ → PhalandrixNode → List ℕ
+restLines f x = pointText f (x .point) (afterLine (x .after))
 
-abbrev pub graphLines : PhalandrixGraph → List PhalandrixNode → ℕ → List ℕ
-graphLines g nodes first = graphText (graphIn nodes first g) []
+abbrev pub nodeLines : ℕ → PhalandrixNode → List ℕ
+nodeLines f x = nodeText f (nodeIn x) []
 
-abbrev pub graphsLines : List PhalandrixGraph → List PhalandrixNode → ℕ → List ℕ
-graphsLines graph nodes n = graphsText (graphsIn graph nodes 0 0 n) []
+abbrev pub nodesLines : ℕ → List PhalandrixNode → ℕ → ℕ → List ℕ
+nodesLines f nodes first n = nodesText f (nodesIn nodes first n) []
+
+abbrev pub graphLines : ℕ → PhalandrixGraph → List PhalandrixNode → ℕ → List ℕ
+graphLines f g nodes first = graphText f (graphIn nodes first g) []
+
+abbrev pub graphsLines : ℕ → List PhalandrixGraph → List PhalandrixNode → ℕ → List ℕ
+graphsLines f graph nodes n = graphsText f (graphsIn graph nodes 0 0 n) []
+
+-- the line of the form, and those behind it
+abbrev pub formLine : ℕ → List ℕ
+formLine f = formText f []
+
+abbrev pub behindLines : PhalandrixTable → List ℕ
+behindLines t = tableHead (t .processors) (t .rounds) (length (tableIn t .graphs)) (graphsLines (t .form) (t .graph) (t .node) (t .graphs))
 
 abbrev pub tableLines : PhalandrixTable → List ℕ
 tableLines t = writtenOf (tableIn t)

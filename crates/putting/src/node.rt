@@ -1,6 +1,7 @@
 // The lines of a number and of an `after` list, and those of a node.
 use lines::AFTER;
 use lines::BUDGET;
+use lines::POINT;
 use memory::PhalandrixNode;
 use table::Table;
 use writing::put_bytes;
@@ -9,7 +10,7 @@ ghost use Prim.Native.Nat.{_+_, _^_, _<_, _≤_};
 ghost use lib.ListN.{length};
 ghost use Rattle.numbers.specs.Masks.{width};
 ghost use Rattle.writing.specs.Written.{Written};
-ghost use Rattle.putting.specs.Texts.{heading, numberLine, twoLines, threeLines, listEnded, afterLine, nodeLines};
+ghost use Rattle.putting.specs.Texts.{heading, numberLine, twoLines, threeLines, listEnded, afterLine, pointLine, restLines, nodeLines};
 
 // How the line of key k begins.
 pub fn put_heading(part: &mut [u8], k: usize) -> usize
@@ -84,10 +85,31 @@ pub fn put_after(part: &mut [u8], mask: u32) -> usize
     at + put_list(&mut part[at..], mask)
 }
 
-pub fn put_node(part: &mut [u8], x: PhalandrixNode) -> usize
-    requires { ⌜ length (nodeLines x) ≤ length (now part) ⌝ }
-    ensures { λ r. ⌜ Written (nodeLines x) (now (part .entry)) (now (part .exit)) r ⌝ }
+// A node's point: nothing where the form has no line for it.
+pub fn put_point(part: &mut [u8], form: u32, v: u32) -> usize
+    requires { ⌜ length (pointLine form v) ≤ length (now part) ⌝ }
+    ensures { λ r. ⌜ Written (pointLine form v) (now (part .entry)) (now (part .exit)) r ⌝ }
+{
+    if Table::has_line(form, POINT) {
+        put_number_line(part, POINT, v)
+    } else {
+        0
+    }
+}
+
+// The lines of a node behind its first two.
+pub fn put_rest(part: &mut [u8], form: u32, x: PhalandrixNode) -> usize
+    requires { ⌜ length (restLines form x) ≤ length (now part) ⌝ }
+    ensures { λ r. ⌜ Written (restLines form x) (now (part .entry)) (now (part .exit)) r ⌝ }
+{
+    let at = put_point(&mut *part, form, x.point);
+    at + put_after(&mut part[at..], x.after)
+}
+
+pub fn put_node(part: &mut [u8], form: u32, x: PhalandrixNode) -> usize
+    requires { ⌜ length (nodeLines form x) ≤ length (now part) ⌝ }
+    ensures { λ r. ⌜ Written (nodeLines form x) (now (part .entry)) (now (part .exit)) r ⌝ }
 {
     let at = put_two(&mut *part, BUDGET, x.budget, x.level);
-    at + put_after(&mut part[at..], x.after)
+    at + put_rest(&mut part[at..], form, x)
 }

@@ -13,7 +13,7 @@ use Rattle.schedule.specs.Limits as Limits
 use Rattle.format.specs.Keys as Keys
 use Rattle.schedule.specs.Table.{Node, Graph}
 use Rattle.schedule.specs.WellFormed.{within, allFollowed, nodesFormed}
-use Rattle.format.specs.Reading.{Place, firstColumn, Outcome, refused, done, _and-then_, valueColumn, numberLine, nodesFrom, graphNodes, graph, graphsFrom, ended, table}
+use Rattle.format.specs.Reading.{Place, firstColumn, Outcome, refused, done, _and-then_, valueColumn, numberLine, nodesFrom, graphNodes, graph, graphsFrom, ended, formTable}
 use Rattle.rules.proofs.Outcomes.{Holds, number-line-holds}
 use Rattle.schedule.proofs.Tests.{by-test}
 use Rattle.numbers.specs.Masks.{unsetBelow}
@@ -58,41 +58,41 @@ three-then {B} k p f = one (numberLine k p)
     one (refused r) = refl
 
 -- a graph's head, and the line of its number of nodes
-pub graph-three : (total : ℕ) (p : Place)
-    → graph total p ≡ threeLines Keys.period 0 p and-then (λ t q. graphNodes total (t .first) (t .second) (t .third) (q .line - 1) q)
+pub graph-three : (form total : ℕ) (p : Place)
+    → graph form total p ≡ threeLines Keys.period 0 p and-then (λ t q. graphNodes form total (t .first) (t .second) (t .third) (q .line - 1) q)
 unfolding graph threeLines
-graph-three total p =
+graph-three form total p =
     on-alike (λ a q. Unit {0}) (numberLine Keys.period p) _ _ (any (numberLine Keys.period p)) (λ a q u.
     on-alike (λ b r. Unit {0}) (numberLine Keys.offset q) _ _ (any (numberLine Keys.offset q)) (λ b r v.
     on-alike (λ n t. (within _ n ≡ true) × (t .line ≡ suc (r .line))) (numberLine Keys.nodes r) _ _ (number-line-holds Keys.nodes r) (λ n t h.
-    let e : r .line ≡ t .line - 1 = omega (arith, h .1) in ap (λ (l : ℕ). graphNodes total a b n l t) e)))
-    ∙ three-then Keys.period p (λ t q. graphNodes total (t .first) (t .second) (t .third) (q .line - 1) q)
+    let e : r .line ≡ t .line - 1 = omega (arith, h .1) in ap (λ (l : ℕ). graphNodes form total a b n l t) e)))
+    ∙ three-then Keys.period p (λ t q. graphNodes form total (t .first) (t .second) (t .third) (q .line - 1) q)
   where
     any : (x : Outcome ℕ) → Holds (λ a q. Unit {0}) x
     any (done a q) = tt
     any (refused r) = tt
 
 -- the table's
-pub table-three : (p : Place)
-    → table p
-    ≡ threeLines Keys.processors 0 p and-then (λ t q. graphsFrom 0 (t .third) q and-then λ Gs r. ended (record { processors = t .first; rounds = t .second; graphs = Gs }) r (r .bytes))
-unfolding table threeLines
-table-three p =
-    three-then Keys.processors p (λ t q. graphsFrom 0 (t .third) q and-then λ Gs r. ended (record { processors = t .first; rounds = t .second; graphs = Gs }) r (r .bytes))
+pub table-three : (form : ℕ) (p : Place)
+    → formTable form p
+    ≡ threeLines Keys.processors 0 p and-then (λ t q. graphsFrom form 0 (t .third) q and-then λ Gs r. ended (record { form = form; processors = t .first; rounds = t .second; graphs = Gs }) r (r .bytes))
+unfolding formTable threeLines
+table-three form p =
+    three-then Keys.processors p (λ t q. graphsFrom form 0 (t .third) q and-then λ Gs r. ended (record { form = form; processors = t .first; rounds = t .second; graphs = Gs }) r (r .bytes))
 
 -- a graph's nodes
-module _ (total period offset n l : ℕ) (p : Place) where
-  pub nodes-over : Limits.allNodes .to < total + n → graphNodes total period offset n l p ≡ refused (OutsideLimits l (valueColumn Keys.nodes))
+module _ (form total period offset n l : ℕ) (p : Place) where
+  pub nodes-over : Limits.allNodes .to < total + n → graphNodes form total period offset n l p ≡ refused (OutsideLimits l (valueColumn Keys.nodes))
   unfolding graphNodes
   nodes-over h = rw (lt-leb (total + n) (Limits.allNodes .to) h)
 
   module _ (h : total + n ≤ Limits.allNodes .to) where
-    pub nodes-refused : (r : Refusal) → nodesFrom 1 n p ≡ refused r → graphNodes total period offset n l p ≡ refused r
+    pub nodes-refused : (r : Refusal) → nodesFrom form period 1 n p ≡ refused r → graphNodes form total period offset n l p ≡ refused r
     unfolding graphNodes
     nodes-refused r e = rw (le-leb (total + n) (Limits.allNodes .to) h, e)
 
-    pub nodes-done : (xs : List Node) (q : Place) → nodesFrom 1 n p ≡ done xs q
-        → graphNodes total period offset n l p
+    pub nodes-done : (xs : List Node) (q : Place) → nodesFrom form period 1 n p ≡ done xs q
+        → graphNodes form total period offset n l p
         ≡ cond (allFollowed xs) (done (record { period = period; offset = offset; nodes = xs }) q) (refused (AgainstPredecessorRules (q .line - 1) firstColumn))
     unfolding graphNodes
     nodes-done xs q e = rw (le-leb (total + n) (Limits.allNodes .to) h, e)
@@ -117,42 +117,42 @@ module _ (t : Memory) (head : Three) (xs : List Node) (taking : Taken) (many : l
 -- graphs from the one after g on, of n
 module _ (t : Memory) (n g : ℕ) (p : Place) (h : g < n) where
   graphs-on : (left : ℕ) (x : Outcome Graph)
-      → mapOutcome (withGraphs t) (x and-then λ a q. graphsFrom (t .nodes + length (a .nodes)) left q and-then λ Gs r. done (a ∷ Gs) r)
-      ≡ x and-then (λ a q. mapOutcome (withGraphs (withGraph t a)) (graphsFrom (t .nodes + length (a .nodes)) left q))
+      → mapOutcome (withGraphs t) (x and-then λ a q. graphsFrom (t .form) (t .nodes + length (a .nodes)) left q and-then λ Gs r. done (a ∷ Gs) r)
+      ≡ x and-then (λ a q. mapOutcome (withGraphs (withGraph t a)) (graphsFrom (t .form) (t .nodes + length (a .nodes)) left q))
   unfolding withGraphs
   graphs-on left (refused r) = refl
-  graphs-on left (done a q) = more (graphsFrom (t .nodes + length (a .nodes)) left q)
+  graphs-on left (done a q) = more (graphsFrom (t .form) (t .nodes + length (a .nodes)) left q)
     where
       more : (y : Outcome (List Graph)) → mapOutcome (withGraphs t) (y and-then λ Gs r. done (a ∷ Gs) r) ≡ mapOutcome (withGraphs (withGraph t a)) y
       more (refused r) = refl
       more (done Gs r) = refl
 
-  graphs-step : mapOutcome (withGraphs t) (graphsFrom (t .nodes) (n - g) p)
-      ≡ graph (t .nodes) p and-then (λ a q. mapOutcome (withGraphs (withGraph t a)) (graphsFrom (t .nodes + length (a .nodes)) (n - (g + 1)) q))
+  graphs-step : mapOutcome (withGraphs t) (graphsFrom (t .form) (t .nodes) (n - g) p)
+      ≡ graph (t .form) (t .nodes) p and-then (λ a q. mapOutcome (withGraphs (withGraph t a)) (graphsFrom (t .form) (t .nodes + length (a .nodes)) (n - (g + 1)) q))
   unfolding graphsFrom
   graphs-step =
       let e : n - g ≡ suc (n - (g + 1)) = omega arith in
-      rw e (graphs-on (n - (g + 1)) (graph (t .nodes) p))
+      rw e (graphs-on (n - (g + 1)) (graph (t .form) (t .nodes) p))
 
-  pub graphs-one : (a : Graph) (q : Place) → graph (t .nodes) p ≡ done a q
-      → mapOutcome (withGraphs t) (graphsFrom (t .nodes) (n - g) p) ≡ mapOutcome (withGraphs (withGraph t a)) (graphsFrom (withGraph t a .nodes) (n - (g + 1)) q)
+  pub graphs-one : (a : Graph) (q : Place) → graph (t .form) (t .nodes) p ≡ done a q
+      → mapOutcome (withGraphs t) (graphsFrom (t .form) (t .nodes) (n - g) p) ≡ mapOutcome (withGraphs (withGraph t a)) (graphsFrom (withGraph t a .form) (withGraph t a .nodes) (n - (g + 1)) q)
   graphs-one a q e = graphs-step ∙ rw e
 
-  pub graphs-refused : (r : Refusal) → graph (t .nodes) p ≡ refused r → mapOutcome (withGraphs t) (graphsFrom (t .nodes) (n - g) p) ≡ refused r
+  pub graphs-refused : (r : Refusal) → graph (t .form) (t .nodes) p ≡ refused r → mapOutcome (withGraphs t) (graphsFrom (t .form) (t .nodes) (n - g) p) ≡ refused r
   graphs-refused r e = graphs-step ∙ rw e
 
-pub graphs-none : (t : Memory) (n g : ℕ) (p : Place) → n ≤ g → mapOutcome (withGraphs t) (graphsFrom (t .nodes) (n - g) p) ≡ done t p
+pub graphs-none : (t : Memory) (n g : ℕ) (p : Place) → n ≤ g → mapOutcome (withGraphs t) (graphsFrom (t .form) (t .nodes) (n - g) p) ≡ done t p
 unfolding graphsFrom withGraphs
 graphs-none t n g p h = let e : n - g ≡ 0 = omega arith in rw e
 
 -- the end of the table, in memory and not
-pub ended-map : (a b : ℕ) (x : Outcome (List Graph))
-    → mapOutcome memoryOf (x and-then λ Gs p. ended (record { processors = a; rounds = b; graphs = Gs }) p (p .bytes))
-    ≡ mapOutcome (withGraphs (emptyTable a b)) x and-then (λ m p. ended m p (p .bytes))
-ended-map a b (refused r) = refl
-ended-map a b (done Gs p) = last (p .bytes)
+pub ended-map : (f a b : ℕ) (x : Outcome (List Graph))
+    → mapOutcome memoryOf (x and-then λ Gs p. ended (record { form = f; processors = a; rounds = b; graphs = Gs }) p (p .bytes))
+    ≡ mapOutcome (withGraphs (emptyTable f a b)) x and-then (λ m p. ended m p (p .bytes))
+ended-map f a b (refused r) = refl
+ended-map f a b (done Gs p) = last (p .bytes)
   where
-    last : (rest : List ℕ) → mapOutcome memoryOf (ended (record { processors = a; rounds = b; graphs = Gs }) p rest) ≡ ended (withGraphs (emptyTable a b) Gs) p rest
+    last : (rest : List ℕ) → mapOutcome memoryOf (ended (record { form = f; processors = a; rounds = b; graphs = Gs }) p rest) ≡ ended (withGraphs (emptyTable f a b) Gs) p rest
     last [] = refl
     last (c ∷ rest) = refl
 

@@ -33,7 +33,7 @@ sets-before (v ∷ vs) l i k d h = sets-before vs (set l i v) (suc i) k d (omega
 -- a node, and the nodes of a graph
 node-back : (v : ℕ) (x : Rules.Node) (xs : List Rules.Node) → v ≤ Limits.nodes .to → nodesFormed v (x ∷ xs) ≡ true → nodeOf (codedNode x) ≡ x
 node-back v x xs h e =
-    ap (λ (l : List ℕ). record { budget = x .budget; level = x .level; after = l }) (list-of-mask v (x .after) h (node-formed v x xs e .order))
+    ap (λ (l : List ℕ). record { budget = x .budget; level = x .level; point = x .point; after = l }) (list-of-mask v (x .after) h (node-formed v x xs e .order))
 
 nodes-back : (v : ℕ) (xs : List Rules.Node) (rows : List Node) (f : ℕ) → v + length xs ≤ suc (Limits.nodes .to) → f + length xs ≤ length rows → nodesFormed v xs ≡ true
     → tab (λ (i : ℕ). nodeOf (getD (filled rows f xs) i noNode)) f (length xs) ≡ xs
@@ -89,6 +89,11 @@ unfolding withGraphs
 graphs-counted [] t = omega arith
 graphs-counted (G ∷ Gs) t = graphs-counted Gs (withGraph t G) ∙ omega arith
 
+pub form-stays : (Gs : List Rules.Graph) (t : Table) → withGraphs t Gs .form ≡ t .form
+unfolding withGraphs
+form-stays [] t = refl
+form-stays (G ∷ Gs) t = form-stays Gs (withGraph t G)
+
 pub processors-stay : (Gs : List Rules.Graph) (t : Table) → withGraphs t Gs .processors ≡ t .processors
 unfolding withGraphs
 processors-stay [] t = refl
@@ -104,10 +109,10 @@ table-of-memory T e =
     let f = table-formed T e in
     let few = within-limits Limits.graphs (length (T .graphs)) (f .few) in
     let all = within-limits Limits.allNodes (nodesIn (T .graphs)) (f .nodes) in
-    let t = emptyTable (T .processors) (T .rounds) in
+    let t = emptyTable (T .form) (T .processors) (T .rounds) in
     let u = withGraphs t (T .graphs) in
     let at : ℕ → Rules.Graph = λ (g : ℕ). graphOf (u .node) (getD (u .graph) g noGraph) in
     let counted : u .graphs ≡ length (T .graphs) = graphs-counted (T .graphs) t ∙ omega arith in
-    rw (processors-stay (T .graphs) t, rounds-stay (T .graphs) t)
-    (ap (λ (Gs : List Rules.Graph). record { processors = T .processors; rounds = T .rounds; graphs = Gs })
+    rw (form-stays (T .graphs) t, processors-stay (T .graphs) t, rounds-stay (T .graphs) t)
+    (ap (λ (Gs : List Rules.Graph). record { form = T .form; processors = T .processors; rounds = T .rounds; graphs = Gs })
     (ap (tab at 0) counted ∙ graphs-back (T .graphs) t (omega (arith, few .1)) (omega (arith, all .1)) (f .graphs)))

@@ -12,7 +12,7 @@ use Rattle.table.specs.Fresh.{noGraph, noNode, emptyTable}
 use Rattle.scanning.specs.Masks.{maskOf, listOf}
 
 abbrev pub codedNode : Rules.Node → Node
-codedNode x = record { budget = x .budget; level = x .level; after = maskOf (x .after) }
+codedNode x = record { budget = x .budget; level = x .level; point = x .point; after = maskOf (x .after) }
 
 -- nodes in the entries from i on
 abbrev pub filled : List Node → ℕ → List Rules.Node → List Node
@@ -22,6 +22,7 @@ filled nodes i xs = sets nodes i (map codedNode xs)
 abbrev pub withGraph : Table → Rules.Graph → Table
 withGraph t G =
     record {
+      form = t .form;
       processors = t .processors;
       rounds = t .rounds;
       graphs = t .graphs + 1;
@@ -36,11 +37,11 @@ withGraphs t (G ∷ Gs) = withGraphs (withGraph t G) Gs
 
 -- a table in memory: what no graph and no node of it stands in is all zeros
 abbrev pub memoryOf : Rules.Table → Table
-memoryOf T = withGraphs (emptyTable (T .processors) (T .rounds)) (T .graphs)
+memoryOf T = withGraphs (emptyTable (T .form) (T .processors) (T .rounds)) (T .graphs)
 
 -- and back
 abbrev pub nodeOf : Node → Rules.Node
-nodeOf x = record { budget = x .budget; level = x .level; after = listOf (x .after) }
+nodeOf x = record { budget = x .budget; level = x .level; point = x .point; after = listOf (x .after) }
 
 abbrev pub graphOf : List Node → Graph → Rules.Graph
 graphOf nodes G =
@@ -48,4 +49,4 @@ graphOf nodes G =
 
 abbrev pub tableOf : Table → Rules.Table
 tableOf t =
-    record { processors = t .processors; rounds = t .rounds; graphs = tab (λ (g : ℕ). graphOf (t .node) (getD (t .graph) g noGraph)) 0 (t .graphs) }
+    record { form = t .form; processors = t .processors; rounds = t .rounds; graphs = tab (λ (g : ℕ). graphOf (t .node) (getD (t .graph) g noGraph)) 0 (t .graphs) }

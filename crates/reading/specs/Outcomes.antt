@@ -7,7 +7,7 @@ use lib.Dec.{eqb}
 use lib.ListN.{set}
 use Rattle.format.specs.declared.Refusal.the-variants.{AgainstPredecessorRules}
 use Rattle.schedule.specs.Table as Rules
-use Rattle.format.specs.Reading.{firstColumn, Outcome, refused, done}
+use Rattle.format.specs.Reading.{Place, firstColumn, Outcome, refused, done, _and-then_, afterLine, pointLine}
 use Rattle.numbers.specs.Masks.{unsetBelow}
 use Rattle.table.specs.declared.Table.{Table}
 use Rattle.table.specs.declared.Node.{Node}
@@ -26,6 +26,13 @@ use Rattle.reading.specs.Memory.{filled}
 abbrev pub nodeReadOf : List ℕ → NodeRead → Outcome Node
 nodeReadOf s (NodeRead.One x p) = done x (placeOf s p)
 nodeReadOf s (NodeRead.Refused r) = refused r
+
+-- the lines of a node behind its first two
+abbrev pub nodeRest : (form period own budget level : ℕ) → Place → Outcome Rules.Node
+nodeRest form period own budget level p =
+    pointLine form period p and-then λ point p.
+    afterLine own p and-then λ after p.
+    done (record { budget = budget; level = level; point = point; after = after }) p
 
 module _ {A : Type 0} where
   abbrev pub endOf : List ℕ → A → End → Outcome A
@@ -55,6 +62,7 @@ tableReadOf s r = endOf s (r .table) (r .end)
 abbrev pub addedGraph : Table → Three → List Node → Table
 addedGraph t head list =
     record {
+      form = t .form;
       processors = t .processors;
       rounds = t .rounds;
       graphs = t .graphs + 1;

@@ -1,26 +1,35 @@
-// The lines one after another: three for a table's head, for a graph's and for each node; then the table, or refusal 1 to 4.
+// The lines one after another: three for a table's head and for a graph's, those of each node; then the table, or refusal 1 to 4.
 use format::Refusal;
+use lines::AFTER;
 use lines::BUDGET;
 use lines::FIRST_COLUMN;
+use lines::FORM;
+use lines::LEVEL;
+use lines::LineRead;
 use lines::NODES;
 use lines::PERIOD;
+use lines::POINT;
 use lines::PROCESSORS;
 use lines::Place;
 use lines::Three;
 use lines::ThreeRead;
+use lines::one_at;
 use lines::three_at;
 use lines::value_column;
+use scanning::next_is;
 use table::Graph;
 use table::Node;
 use table::Table;
 ghost use mathlib.Core.Path.{_≡_};
 ghost use Prim.Native.Nat.{_+_, _-_, _*_, _^_, _<_, _≤_};
 ghost use lib.ListN.{length};
+ghost use mathlib.Core.Bool.{true};
 ghost use Rattle.schedule.specs.Limits as Limits;
-ghost use Rattle.format.specs.Reading.{_and-then_, node, nodesFrom, graphNodes, graph, graphsFrom, ended, readOf};
+ghost use Rattle.schedule.specs.WellFormed.{within};
+ghost use Rattle.format.specs.Reading.{_and-then_, pointLine, node, nodesFrom, graphNodes, graph, graphsFrom, ended, formLine, formTable, readOf};
 ghost use Rattle.reading.specs.Memory.{codedNode, withGraph, withGraphs, memoryOf};
 ghost use Rattle.lines.specs.Numbered.{mapOutcome, placeOf, codedLine, lineReadOf, threeLines, threeReadOf};
-ghost use Rattle.reading.specs.Outcomes.{nodeReadOf, taken, nodesReadOf, addedGraph, endedGraph, tableReadOf};
+ghost use Rattle.reading.specs.Outcomes.{nodeReadOf, nodeRest, taken, nodesReadOf, addedGraph, endedGraph, tableReadOf};
 
 pub enum NodeRead {
     One(Node, Place),
@@ -45,33 +54,76 @@ pub struct TableRead {
     pub end: End,
 }
 
-pub fn node_at(s: &[u8], place: Place, own: u32) -> NodeRead
-    requires { ⌜ (place .line + 3 < 2 ^ 32) × (own ≤ Limits.nodes .to) × (length (now s) ≤ Limits.tableBytes .to) ⌝ }
-    ensures { λ r. ⌜ nodeReadOf (now (s .entry)) r ≡ mapOutcome codedNode (node own (placeOf (now (s .entry)) place)) ⌝ }
+// A node's point: in a form that has no line for it, the period.
+pub fn point_at(s: &[u8], place: Place, form: u32, period: u32) -> LineRead
+    requires { ⌜ (place .line + 1 < 2 ^ 32) × (length (now s) ≤ Limits.tableBytes .to) ⌝ }
+    ensures { λ r. ⌜ lineReadOf (now (s .entry)) r ≡ pointLine form period (placeOf (now (s .entry)) place) ⌝ }
 {
-    match three_at(s, place, BUDGET, own) {
-        ThreeRead::Refused(f) => NodeRead::Refused(f),
-        ThreeRead::Values(t, p) => NodeRead::One(
-            Node {
-                budget: t.first,
-                level: t.second,
-                after: t.third,
-            },
-            p,
-        ),
+    if Table::has_line(form, POINT) {
+        one_at(s, place, POINT, 0)
+    } else {
+        LineRead::Value(period, place)
     }
 }
 
-// The n nodes of a graph, into the entries from first on.
+// The lines of a node behind its first two, which are in `begun` already, with the period for its point.
+pub fn node_rest(s: &[u8], place: Place, form: u32, begun: Node, own: u32) -> NodeRead
+    requires { ⌜ (place .line + 2 < 2 ^ 32) × (own ≤ Limits.nodes .to) × (length (now s) ≤ Limits.tableBytes .to) ⌝ }
+    ensures { λ r. ⌜ nodeReadOf (now (s .entry)) r ≡ mapOutcome codedNode (nodeRest form (begun .point) own (begun .budget) (begun .level) (placeOf (now (s .entry)) place)) ⌝ }
+{
+    match point_at(s, place, form, begun.point) {
+        LineRead::Refused(f) => NodeRead::Refused(f),
+        LineRead::Value(point, p) => match one_at(s, p, AFTER, own) {
+            LineRead::Refused(f) => NodeRead::Refused(f),
+            LineRead::Value(after, q) => NodeRead::One(
+                Node {
+                    budget: begun.budget,
+                    level: begun.level,
+                    point,
+                    after,
+                },
+                q,
+            ),
+        },
+    }
+}
+
+pub fn node_at(s: &[u8], place: Place, form: u32, period: u32, own: u32) -> NodeRead
+    requires { ⌜ (place .line + 4 < 2 ^ 32) × (own ≤ Limits.nodes .to) × (length (now s) ≤ Limits.tableBytes .to) ⌝ }
+    ensures { λ r. ⌜ nodeReadOf (now (s .entry)) r ≡ mapOutcome codedNode (node form period own (placeOf (now (s .entry)) place)) ⌝ }
+{
+    match one_at(s, place, BUDGET, 0) {
+        LineRead::Refused(f) => NodeRead::Refused(f),
+        LineRead::Value(budget, p) => match one_at(s, p, LEVEL, 0) {
+            LineRead::Refused(f) => NodeRead::Refused(f),
+            LineRead::Value(level, q) => node_rest(
+                s,
+                q,
+                form,
+                Node {
+                    budget,
+                    level,
+                    point: period,
+                    after: 0,
+                },
+                own,
+            ),
+        },
+    }
+}
+
+// The n nodes of a graph of that period, into the entries from first on.
 pub fn nodes_at(
     s: &[u8],
     place: Place,
+    form: u32,
+    period: u32,
     nodes: [Node; Table::SERVERS],
     first: usize,
     n: u32,
 ) -> NodesRead
-    requires { ⌜ (first + n ≤ Limits.allNodes .to) × (n ≤ Limits.nodes .to) × (place .line + 3 * n < 2 ^ 32) × (length (now s) ≤ Limits.tableBytes .to) ⌝ }
-    ensures { λ r. ⌜ nodesReadOf (now (s .entry)) r ≡ mapOutcome (taken nodes first 0) (nodesFrom 1 n (placeOf (now (s .entry)) place)) ⌝ }
+    requires { ⌜ (first + n ≤ Limits.allNodes .to) × (n ≤ Limits.nodes .to) × (place .line + 4 * n < 2 ^ 32) × (length (now s) ≤ Limits.tableBytes .to) × (within Limits.period period ≡ true) ⌝ }
+    ensures { λ r. ⌜ nodesReadOf (now (s .entry)) r ≡ mapOutcome (taken nodes first 0) (nodesFrom form period 1 n (placeOf (now (s .entry)) place)) ⌝ }
 {
     let mut list = nodes;
     let mut named: u32 = 0;
@@ -79,7 +131,7 @@ pub fn nodes_at(
     let mut own: u32 = 1;
     let mut slot = first;
     while own <= n {
-        match node_at(s, p, own) {
+        match node_at(s, p, form, period, own) {
             NodeRead::Refused(f) => {
                 return NodesRead {
                     nodes: list,
@@ -118,6 +170,7 @@ pub fn added(t: Table, head: Three, list: [Node; Table::SERVERS]) -> Table
         nodes: n,
     };
     Table {
+        form: t.form,
         processors: t.processors,
         rounds: t.rounds,
         graphs: g + 1,
@@ -155,8 +208,8 @@ pub fn graph_ended(
 
 // A graph's nodes, once the three lines of its head are read.
 pub fn graph_nodes(s: &[u8], place: Place, t: Table, head: Three) -> TableRead
-    requires { ⌜ (t .graphs < Limits.graphs .to) × (t .nodes ≤ Limits.allNodes .to) × (1 ≤ head .third) × (head .third ≤ Limits.nodes .to) × (0 < place .line) × (place .line + 3 * head .third < 2 ^ 32) × (length (now s) ≤ Limits.tableBytes .to) ⌝ }
-    ensures { λ r. ⌜ tableReadOf (now (s .entry)) r ≡ mapOutcome (withGraph t) (graphNodes (t .nodes) (head .first) (head .second) (head .third) (place .line - 1) (placeOf (now (s .entry)) place)) ⌝ }
+    requires { ⌜ (t .graphs < Limits.graphs .to) × (t .nodes ≤ Limits.allNodes .to) × (1 ≤ head .third) × (head .third ≤ Limits.nodes .to) × (0 < place .line) × (place .line + 4 * head .third < 2 ^ 32) × (length (now s) ≤ Limits.tableBytes .to) × (within Limits.period (head .first) ≡ true) ⌝ }
+    ensures { λ r. ⌜ tableReadOf (now (s .entry)) r ≡ mapOutcome (withGraph t) (graphNodes (t .form) (t .nodes) (head .first) (head .second) (head .third) (place .line - 1) (placeOf (now (s .entry)) place)) ⌝ }
 {
     let first = t.nodes;
     let n = head.third;
@@ -169,7 +222,7 @@ pub fn graph_nodes(s: &[u8], place: Place, t: Table, head: Three) -> TableRead
         };
     }
     let old = t.node;
-    let got = nodes_at(s, place, old, first, n);
+    let got = nodes_at(s, place, t.form, head.first, old, first, n);
     let list = got.nodes;
     let end = got.end;
     match end {
@@ -182,8 +235,8 @@ pub fn graph_nodes(s: &[u8], place: Place, t: Table, head: Three) -> TableRead
 }
 
 pub fn graph_at(s: &[u8], place: Place, t: Table) -> TableRead
-    requires { ⌜ (t .graphs < Limits.graphs .to) × (t .nodes ≤ Limits.allNodes .to) × (place .line + 3 + 3 * Limits.nodes .to < 2 ^ 32) × (length (now s) ≤ Limits.tableBytes .to) ⌝ }
-    ensures { λ r. ⌜ tableReadOf (now (s .entry)) r ≡ mapOutcome (withGraph t) (graph (t .nodes) (placeOf (now (s .entry)) place)) ⌝ }
+    requires { ⌜ (t .graphs < Limits.graphs .to) × (t .nodes ≤ Limits.allNodes .to) × (place .line + 3 + 4 * Limits.nodes .to < 2 ^ 32) × (length (now s) ≤ Limits.tableBytes .to) ⌝ }
+    ensures { λ r. ⌜ tableReadOf (now (s .entry)) r ≡ mapOutcome (withGraph t) (graph (t .form) (t .nodes) (placeOf (now (s .entry)) place)) ⌝ }
 {
     match three_at(s, place, PERIOD, 0) {
         ThreeRead::Refused(f) => TableRead {
@@ -195,8 +248,8 @@ pub fn graph_at(s: &[u8], place: Place, t: Table) -> TableRead
 }
 
 pub fn graphs_at(s: &[u8], place: Place, t: Table, n: u32) -> TableRead
-    requires { ⌜ (t .graphs + n ≤ Limits.graphs .to) × (t .nodes ≤ Limits.allNodes .to) × (place .line + n * (3 + 3 * Limits.nodes .to) < 2 ^ 32) × (length (now s) ≤ Limits.tableBytes .to) ⌝ }
-    ensures { λ r. ⌜ tableReadOf (now (s .entry)) r ≡ mapOutcome (withGraphs t) (graphsFrom (t .nodes) n (placeOf (now (s .entry)) place)) ⌝ }
+    requires { ⌜ (t .graphs + n ≤ Limits.graphs .to) × (t .nodes ≤ Limits.allNodes .to) × (place .line + n * (3 + 4 * Limits.nodes .to) < 2 ^ 32) × (length (now s) ≤ Limits.tableBytes .to) ⌝ }
+    ensures { λ r. ⌜ tableReadOf (now (s .entry)) r ≡ mapOutcome (withGraphs t) (graphsFrom (t .form) (t .nodes) n (placeOf (now (s .entry)) place)) ⌝ }
 {
     let mut u = t;
     let mut p = place;
@@ -255,26 +308,57 @@ pub fn ended_at(s: &[u8], got: TableRead) -> TableRead
     }
 }
 
+// The form: the first line tells it where it begins with the first byte of `form`; else it is already the old form's first line.
+pub fn form_at(s: &[u8], place: Place) -> LineRead
+    requires { ⌜ (place .line + 1 < 2 ^ 32) × (length (now s) ≤ Limits.tableBytes .to) ⌝ }
+    ensures { λ r. ⌜ lineReadOf (now (s .entry)) r ≡ formLine (placeOf (now (s .entry)) place) ⌝ }
+{
+    if next_is(s, place.at, b'f') {
+        one_at(s, place, FORM, 0)
+    } else {
+        LineRead::Value(Table::OLD_FORM, place)
+    }
+}
+
+// A table of that form, behind the line that tells it.
+pub fn form_table(s: &[u8], place: Place, form: u32) -> TableRead
+    requires { ⌜ (place .line ≤ 2) × (length (now s) ≤ Limits.tableBytes .to) ⌝ }
+    ensures { λ r. ⌜ tableReadOf (now (s .entry)) r ≡ mapOutcome memoryOf (formTable form (placeOf (now (s .entry)) place)) ⌝ }
+{
+    match three_at(s, place, PROCESSORS, 0) {
+        ThreeRead::Refused(f) => TableRead {
+            table: Table::empty(0, 0, 0),
+            end: End::Refused(f),
+        },
+        ThreeRead::Values(head, p) => {
+            ended_at(
+                s,
+                graphs_at(
+                    s,
+                    p,
+                    Table::empty(form, head.first, head.second),
+                    head.third,
+                ),
+            )
+        }
+    }
+}
+
 // The whole table, or refusal 1 to 4.
 pub fn table_read(s: &[u8]) -> TableRead
     ensures { λ r. ⌜ tableReadOf (now (s .entry)) r ≡ mapOutcome memoryOf (readOf (now (s .entry))) ⌝ }
 {
     if (Table::TABLE_BYTES_TO as usize) < s.len() {
         return TableRead {
-            table: Table::empty(0, 0),
+            table: Table::empty(0, 0, 0),
             end: End::Refused(Refusal::TooLong),
         };
     }
-    match three_at(s, Place { line: 1, at: 0 }, PROCESSORS, 0) {
-        ThreeRead::Refused(f) => TableRead {
-            table: Table::empty(0, 0),
+    match form_at(s, Place { line: 1, at: 0 }) {
+        LineRead::Refused(f) => TableRead {
+            table: Table::empty(0, 0, 0),
             end: End::Refused(f),
         },
-        ThreeRead::Values(head, p) => {
-            ended_at(
-                s,
-                graphs_at(s, p, Table::empty(head.first, head.second), head.third),
-            )
-        }
+        LineRead::Value(form, p) => form_table(s, p, form),
     }
 }

@@ -8,3 +8,4 @@ pub mod TrueReports
 pub mod CutTables
 pub mod LimitedOverlap
 pub mod Shares
+pub mod Forms

@@ -91,6 +91,16 @@ eight-every-1 = "processors=8\nrounds=64\ngraphs=1\nperiod=1\noffset=0\nnodes=1\
 abbrev pub eight-every-1-on-1 : String
 eight-every-1-on-1 = "processors=1\nrounds=64\ngraphs=1\nperiod=1\noffset=0\nnodes=1\nbudget=8\nlevel=1\nafter=none\n"
 
+-- graph 1 first by its point, though its deadline is the later one; a tie by graph number; and document 01's node every 4 in form 2
+abbrev pub gauge-first : String
+gauge-first = "form=2\nprocessors=1\nrounds=64\ngraphs=2\nperiod=8\noffset=0\nnodes=1\nbudget=3\nlevel=1\npoint=2\nafter=none\nperiod=4\noffset=0\nnodes=1\nbudget=1\nlevel=1\npoint=4\nafter=none\n"
+
+abbrev pub tie-of-points : String
+tie-of-points = "form=2\nprocessors=1\nrounds=64\ngraphs=2\nperiod=4\noffset=1\nnodes=1\nbudget=1\nlevel=1\npoint=3\nafter=none\nperiod=4\noffset=0\nnodes=1\nbudget=3\nlevel=1\npoint=4\nafter=none\n"
+
+abbrev pub node-1-every-4-in-form-2 : String
+node-1-every-4-in-form-2 = "form=2\nprocessors=1\nrounds=64\ngraphs=1\nperiod=4\noffset=0\nnodes=1\nbudget=1\nlevel=1\npoint=4\nafter=none\n"
+
 -- what is asked of a table
 pub data Asked : Type 0 where
   report : Asked
@@ -114,7 +124,14 @@ printCases =
     prints node-1-every-4 report "answer=0\nround=1\nticks=4\nresponse=1\n"
     ∷ prints chain-1-1 report "answer=0\nround=2\nticks=8\nresponse=6\n"
     ∷ prints two-graphs report "answer=0\nround=1\nticks=4\nresponse=1\nresponse=2\n"
+    ∷ prints node-1-every-4-in-form-2 report "answer=0\nround=1\nticks=4\nresponse=1\n"
+    ∷ prints gauge-first report "answer=0\nround=1\nticks=8\nresponse=3\nresponse=4\n"
+    ∷ prints gauge-first (row 0) "run=1,1,1,1\n"
+    ∷ prints tie-of-points report "answer=0\nround=1\nticks=5\nresponse=1\nresponse=4\n"
+    ∷ prints tie-of-points (row 1) "run=1,1,1,1\n"
     -- refusals print their number, line and column
+    ∷ prints "fx" report "answer=2\nline=1\ncolumn=2\n"
+    ∷ prints "form=1\n" report "answer=3\nline=1\ncolumn=6\n"
     ∷ prints "" report "answer=2\nline=1\ncolumn=1\n"
     ∷ prints "processors=1\nrounds=0\n" report "answer=3\nline=2\ncolumn=8\n"
     -- what reading refuses comes before a long hyperperiod

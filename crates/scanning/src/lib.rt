@@ -12,5 +12,6 @@ pub use scanners::Scanned;
 pub use scanners::byte_at;
 pub use scanners::grown;
 pub use scanners::is_digit;
+pub use scanners::next_is;
 pub use scanners::number_at;
 pub use scanners::text_at;

@@ -15,7 +15,7 @@ use Rattle.schedule.specs.Links.{dueBy, finishedBy}
 use Rattle.schedule.specs.Walk.{Stop, settled, backlog, Running, stopWith, stopAt, firstStop, stopped, figures, walked, wholeWalk, rowAt}
 use Rattle.schedule.specs.Described.{alone, chain}
 use Rattle.schedule.specs.TableCases as Tables
-use Rattle.schedule.specs.TableCases.{LoadCase, loads, twoGraphs, boxOfTwoGraphs}
+use Rattle.schedule.specs.TableCases.{LoadCase, loads, twoGraphs, boxOfTwoGraphs, withPoints, boxWithPoints}
 use Rattle.schedule.specs.WalkCases.{WalkCase, shortWalks, RowCase, rowCases, StateCase, stateCases, someState, otherStates, never, needsTwo, ticksOf, linksOf, JobCase, job, jobCases, needs}
 use Rattle.schedule.proofs.Computing.{computing}
 
@@ -46,6 +46,10 @@ falling-behind-holds = tt
 pub box-holds : boxOf twoGraphs ≡ boxOfTwoGraphs
 unfolding computing boxOfTwoGraphs
 box-holds = refl
+
+pub points-hold : boxOf withPoints ≡ boxWithPoints
+unfolding computing boxWithPoints
+points-hold = refl
 
 -- the short walks: the way to stop at the last tick and no earlier, and the figures there
 abbrev stopsOf : WalkCase → List (Option Stop)

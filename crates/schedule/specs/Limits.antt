@@ -41,6 +41,21 @@ level = record { from = 1; to = 4 }
 abbrev pub hyperperiod : Range
 hyperperiod = record { from = 1; to = 20000 }
 
+-- what is added to a release to give its priority (R-9)
+abbrev pub point : Range
+point = record { from = 0; to = 20000 }
+
+-- the number after `form=` (R-9). A table that does not begin with that line is of the form before these
+abbrev pub form : Range
+form = record { from = 2; to = 2 }
+
+abbrev pub oldForm : ℕ
+oldForm = form .from - 1
+
+-- of a table in memory
+abbrev pub forms : Range
+forms = record { from = oldForm; to = form .to }
+
 -- an instant that a row is asked for (R-10)
 abbrev pub instant : Range
 instant = record { from = 0; to = 4000000000 }

@@ -4,8 +4,8 @@ use Prim.Native.Nat.{ℕ, suc, _+_, _-_}
 use lib.ListN.{length, getD}
 use Rattle.schedule.specs.Table.{Node, Graph, Table, hyperperiod, largestOffset}
 
--- a node's server has the graph's period and the node's budget. Server jobs are ordered by release plus `point`: a point that equals
--- the period makes that the deadline. `predecessors` are places in the list of servers, from 0
+-- a node's server has the graph's period, and the node's budget and point. Server jobs are ordered by release plus `point`: a point that
+-- equals the period makes that the deadline. `predecessors` are places in the list of servers, from 0
 pub record Server : Type 0 where
   pub graph : ℕ
   pub node : ℕ
@@ -28,7 +28,7 @@ serverOf base g v G x =
       node = v;
       period = G .period;
       offset = G .offset;
-      point = G .period;
+      point = x .point;
       budget = x .budget;
       level = x .level;
       predecessors = map (λ (p : ℕ). base + (p - 1)) (x .after);

@@ -5,10 +5,12 @@ use Prim.Native.Nat.{ℕ, zero, suc, _*_, _/_, _%_}
 use lib.Dec.{leb}
 use Rattle.schedule.specs.Lists.{all?, sum, largest}
 
--- a node: `after` are the numbers of its predecessors in its graph, rising
+-- a node: its server jobs are ordered by release plus `point`; in a table of the old form the point is the period. `after` are the numbers of
+-- its predecessors in its graph, rising
 pub record Node : Type 0 where
   pub budget : ℕ
   pub level : ℕ
+  pub point : ℕ
   pub after : List ℕ
 
 pub record Graph : Type 0 where
@@ -16,8 +18,9 @@ pub record Graph : Type 0 where
   pub offset : ℕ
   pub nodes : List Node
 
--- graphs and nodes are numbered from 1, in the order of their lists
+-- graphs and nodes are numbered from 1, in the order of their lists. The form says which lines the table's text has, and nothing else
 pub record Table : Type 0 where
+  pub form : ℕ
   pub processors : ℕ
   pub rounds : ℕ
   pub graphs : List Graph

@@ -12,7 +12,7 @@ use Rattle.schedule.specs.Lists.{all?, tab, upTo}
 use Rattle.schedule.specs.Table.{Node, Graph, Table}
 use Rattle.schedule.specs.WellFormed.{within}
 use Rattle.schedule.specs.Servers.{Server, Box}
-use Rattle.schedule.specs.Described.{table, graph, node, alone, one, chain}
+use Rattle.schedule.specs.Described.{pointedNode, pointedGraph, pointedTable, table, graph, node, pointed, alone, one, chain}
 
 -- numbers within a limit, and numbers that are not
 pub record Sides : Type 0 where
@@ -38,6 +38,9 @@ limits =
     ∷ sides Limits.nodes (1 ∷ 16 ∷ []) (0 ∷ 17 ∷ [])
     ∷ sides Limits.allNodes (1 ∷ 32 ∷ []) (0 ∷ 33 ∷ [])
     ∷ sides Limits.level (1 ∷ 4 ∷ []) (0 ∷ 5 ∷ [])
+    ∷ sides Limits.point (0 ∷ 20000 ∷ []) (20001 ∷ [])
+    ∷ sides Limits.form (2 ∷ []) (0 ∷ 1 ∷ 3 ∷ [])
+    ∷ sides Limits.forms (1 ∷ 2 ∷ []) (0 ∷ 3 ∷ [])
     ∷ sides Limits.hyperperiod (1 ∷ 20000 ∷ []) (0 ∷ 20001 ∷ [])
     ∷ sides Limits.instant (0 ∷ 4000000000 ∷ []) (4000000001 ∷ [])
     ∷ sides Limits.predecessor (1 ∷ 15 ∷ []) (0 ∷ 16 ∷ [])
@@ -62,11 +65,16 @@ formed =
     -- a node after several; the last after all 15
     ∷ alone 1 1 100 (node 1 1 [] ∷ node 1 1 (1 ∷ []) ∷ node 1 1 (1 ∷ []) ∷ node 1 1 (2 ∷ 3 ∷ []) ∷ [])
     ∷ alone 1 1 100 (chainOf 15 ++ (node 1 1 (upTo 15) ∷ []))
+    -- with points, whatever the period
+    ∷ pointedTable 1 1 (pointedGraph 1 0 (pointed 1 20000) ∷ pointedGraph 10000 0 (pointed 1 0) ∷ [])
     ∷ []
 
 unfoldable pub misformed : List Table
 misformed =
-    alone 0 1 4 (one 1 1)
+    pointedTable 1 1 (pointedGraph 4 0 (pointed 1 20001) ∷ [])
+    ∷ record { form = 0; processors = 1; rounds = 1; graphs = pointedGraph 4 0 (pointed 1 4) ∷ [] }
+    ∷ record { form = 3; processors = 1; rounds = 1; graphs = pointedGraph 4 0 (pointed 1 4) ∷ [] }
+    ∷ alone 0 1 4 (one 1 1)
     ∷ alone 9 1 4 (one 1 1)
     ∷ alone 1 0 4 (one 1 1)
     ∷ alone 1 65 4 (one 1 1)
@@ -140,10 +148,14 @@ fallingBehind =
     ∷ table 8 1 (graph 4 0 (one 4 1) ∷ graph 2 0 (one 3 1) ∷ [])
     ∷ []
 
--- what is walked of a table of two graphs: a server for each node, by graph and node; predecessors and sinks are places from 0
+-- what is walked of a table of two graphs: a server for each node, by graph and node; predecessors and sinks are places from 0. Each has its
+-- node's point, in the old form the period
+abbrev pub pointedServer : ℕ → ℕ → ℕ → ℕ → ℕ → ℕ → ℕ → List ℕ → Server
+pointedServer g v period offset point budget level ps =
+    record { graph = g; node = v; period = period; offset = offset; point = point; budget = budget; level = level; predecessors = ps }
+
 abbrev pub server : ℕ → ℕ → ℕ → ℕ → ℕ → ℕ → List ℕ → Server
-server g v period offset budget level ps =
-    record { graph = g; node = v; period = period; offset = offset; point = period; budget = budget; level = level; predecessors = ps }
+server g v period offset budget level ps = pointedServer g v period offset period budget level ps
 
 abbrev pub twoGraphs : Table
 twoGraphs = table 3 5 (graph 4 1 (chain 1 2) ∷ graph 6 3 (node 2 3 [] ∷ node 1 4 (1 ∷ []) ∷ node 5 1 (1 ∷ 2 ∷ []) ∷ []) ∷ [])
@@ -153,6 +165,20 @@ boxOfTwoGraphs =
     record {
       servers = server 1 1 4 1 1 1 [] ∷ server 1 2 4 1 2 1 (0 ∷ []) ∷ server 2 1 6 3 2 3 [] ∷ server 2 2 6 3 1 4 (2 ∷ []) ∷ server 2 3 6 3 5 1 (2 ∷ 3 ∷ []) ∷ [];
       sinks = 1 ∷ 4 ∷ [];
+      cap = λ (t : ℕ). 3;
+      origin = 3;
+      hyper = 12;
+      rounds = 5;
+    }
+
+abbrev pub withPoints : Table
+withPoints = pointedTable 3 5 (pointedGraph 4 1 (pointedNode 1 1 7 [] ∷ pointedNode 2 3 0 (1 ∷ []) ∷ []) ∷ pointedGraph 6 3 (pointed 2 20000) ∷ [])
+
+unfoldable pub boxWithPoints : Box
+boxWithPoints =
+    record {
+      servers = pointedServer 1 1 4 1 7 1 1 [] ∷ pointedServer 1 2 4 1 0 2 3 (0 ∷ []) ∷ pointedServer 2 1 6 3 20000 2 1 [] ∷ [];
+      sinks = 1 ∷ 2 ∷ [];
       cap = λ (t : ℕ). 3;
       origin = 3;
       hyper = 12;

@@ -8,7 +8,7 @@ use Rattle.schedule.specs.Lists.{tab, upTo}
 use Rattle.schedule.specs.Table.{Table}
 use Rattle.schedule.specs.State.{PendingJob, NodeState, State}
 use Rattle.schedule.specs.Walk.{Stop, settled, unsettled, backlog, Walked, Running}
-use Rattle.schedule.specs.Described.{table, graph, node, alone, one, chain}
+use Rattle.schedule.specs.Described.{pointedNode, pointedGraph, pointedTable, table, graph, node, pointed, alone, one, chain}
 
 -- how a walk ends: the way, the ticks, the figure of each graph. Few rounds, so that a walk that goes wrong ends soon
 pub record WalkCase : Type 0 where
@@ -42,6 +42,14 @@ shortWalks =
     -- boundary 0 is the largest offset
     ∷ walks (table 1 5 (graph 4 0 (one 2 1) ∷ graph 8 1 (one 3 1) ∷ [])) (settled 1) 9 (2 ∷ 6 ∷ [])
     ∷ walks (table 1 5 (graph 4 5 (one 1 1) ∷ [])) (settled 1) 9 (1 ∷ [])
+    -- release plus point: graph 1 first, though its deadline is the later one
+    ∷ walks (pointedTable 1 5 (pointedGraph 8 0 (pointed 3 2) ∷ pointedGraph 4 0 (pointed 1 4) ∷ [])) (settled 1) 8 (3 ∷ 4 ∷ [])
+    -- equal: by graph number, though the server job of graph 2 is the earlier one
+    ∷ walks (pointedTable 1 5 (pointedGraph 4 1 (pointed 1 3) ∷ pointedGraph 4 0 (pointed 3 4) ∷ [])) (settled 1) 5 (1 ∷ 4 ∷ [])
+    -- a point of 0
+    ∷ walks (pointedTable 1 5 (pointedGraph 4 0 (pointed 2 4) ∷ pointedGraph 4 1 (pointed 1 0) ∷ [])) (settled 1) 5 (3 ∷ 1 ∷ [])
+    -- the response counts from the release, whatever the point
+    ∷ walks (pointedTable 1 5 (pointedGraph 4 0 (pointed 1 20000) ∷ [])) (settled 1) 4 (1 ∷ [])
     ∷ []
 
 unfoldable pub longWalks : List WalkCase
@@ -95,6 +103,9 @@ rowCases =
     ∷ row (alone 3 5 1 (one 3 2)) 3 (run 1 1 2 2 ∷ run 1 1 3 3 ∷ [])
     -- a deadline counts from the offset: 6 for graph 2, 7 for graph 1
     ∷ row (table 1 5 (graph 4 3 (one 1 1) ∷ graph 6 0 (one 4 1) ∷ [])) 3 (run 2 1 1 1 ∷ [])
+    -- by release plus point, where each node has a point of its own: 2 for node 2, 4 for node 1; and 5 for graph 2, 6 for graph 1
+    ∷ row (pointedTable 1 5 (pointedGraph 4 0 (pointedNode 1 1 4 [] ∷ pointedNode 1 1 2 (1 ∷ []) ∷ []) ∷ [])) 0 (run 1 2 1 0 ∷ [])
+    ∷ row (pointedTable 2 5 (pointedGraph 4 0 (pointed 4 6) ∷ pointedGraph 4 1 (pointed 1 4) ∷ [])) 1 (run 2 1 1 1 ∷ run 1 1 1 1 ∷ [])
     -- no server job runs before its release
     ∷ row (table 1 5 (graph 4 3 (one 2 1) ∷ graph 6 1 (one 1 1) ∷ [])) 0 []
     ∷ row (table 1 5 (graph 4 3 (one 2 1) ∷ graph 6 1 (one 1 1) ∷ [])) 1 (run 2 1 1 1 ∷ [])

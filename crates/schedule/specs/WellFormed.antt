@@ -1,4 +1,4 @@
--- What document 01 asks of a table: its limits, and the predecessor rules.
+-- What documents 01 and 02 ask of a table: its limits, and the predecessor rules.
 use mathlib.Core.Bool.{Bool, true, _&&_}
 use mathlib.Core.List.{List, [], _∷_}
 use Prim.Native.Nat.{ℕ, suc, _-_}
@@ -33,7 +33,7 @@ allFollowed xs = all? (followed xs) (upTo (length xs - 1))
 -- the nodes from number v on
 unfoldable pub nodesFormed : ℕ → List Node → Bool
 nodesFormed v [] = true
-nodesFormed v (x ∷ xs) = (within Limits.budget (x .budget) && (within Limits.level (x .level) && orderly v (x .after))) && nodesFormed (suc v) xs
+nodesFormed v (x ∷ xs) = (within Limits.budget (x .budget) && (within Limits.level (x .level) && (within Limits.point (x .point) && orderly v (x .after)))) && nodesFormed (suc v) xs
 
 unfoldable pub graphFormed : Graph → Bool
 graphFormed G =
@@ -42,7 +42,8 @@ graphFormed G =
 
 unfoldable pub wellFormed : Table → Bool
 wellFormed T =
-    within Limits.processors (T .processors)
+    within Limits.forms (T .form)
+    && (within Limits.processors (T .processors)
     && (within Limits.rounds (T .rounds)
     && (within Limits.graphs (length (T .graphs))
-    && (all? graphFormed (T .graphs) && within Limits.allNodes (sum (λ (G : Graph). length (G .nodes)) (T .graphs)))))
+    && (all? graphFormed (T .graphs) && within Limits.allNodes (sum (λ (G : Graph). length (G .nodes)) (T .graphs))))))

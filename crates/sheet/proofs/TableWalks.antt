@@ -57,7 +57,7 @@ module _ (U : Table) (ok : T (wellFormed U)) (short : hyperperiod U ≤ Limits.h
   a = codedAdmission (admitted U)
 
   rounds-are : M .rounds ≡ X .rounds
-  rounds-are = rounds-stay (U .graphs) (Fresh.emptyTable (U .processors) (U .rounds))
+  rounds-are = rounds-stay (U .graphs) (Fresh.emptyTable (U .form) (U .processors) (U .rounds))
 
   pub walkable : Walkable a
   walkable =

@@ -3,3 +3,4 @@ pub mod SpelledNumbers
 pub mod SpelledLists
 pub mod LongestBeginning
 pub mod Columns
+pub mod FirstLine

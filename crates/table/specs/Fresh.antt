@@ -16,11 +16,12 @@ abbrev pub noGraph : Graph
 noGraph = record { period = 0; offset = 0; first = 0; nodes = 0 }
 
 abbrev pub noNode : Node
-noNode = record { budget = 0; level = 0; after = 0 }
+noNode = record { budget = 0; level = 0; point = 0; after = 0 }
 
-abbrev pub emptyTable : ℕ → ℕ → Table
-emptyTable p r =
+abbrev pub emptyTable : ℕ → ℕ → ℕ → Table
+emptyTable f p r =
     record {
+      form = f;
       processors = p;
       rounds = r;
       graphs = 0;

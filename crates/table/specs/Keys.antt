@@ -12,4 +12,4 @@ nameLength = 10
 
 abbrev pub codedKey : Rules.Key → Key
 codedKey k =
-    record { name = take nameLength (k .name ++ replicate nameLength 0); length = length (k .name); range = coded (k .range) }
+    record { name = take nameLength (k .name ++ replicate nameLength 0); length = length (k .name); range = coded (k .range); since = k .since }

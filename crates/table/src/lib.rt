@@ -1,7 +1,7 @@
-// The table in memory, with every limit of documents 01 and 02 as an associated constant; the keys; the windows that a walk keeps, with
-// the functions that make an empty server and the fresh state.
+// The table in memory, with every limit of documents 01 and 02 as an associated constant; the keys, and which lines a form has; the windows that a
+// walk keeps, with the functions that make an empty server and the fresh state.
 ghost use mathlib.Core.Path.{_≡_};
-ghost use Rattle.format.specs.Keys.{keyAt};
+ghost use Rattle.format.specs.Keys.{keyAt, hasLine, tellsForm};
 ghost use Rattle.table.specs.Limits.{limits};
 ghost use Rattle.table.specs.Keys.{codedKey};
 ghost use Rattle.table.specs.Fresh.{emptyTable, emptyServer, freshState};
@@ -24,6 +24,9 @@ pub struct Limits {
     pub all_nodes: Range,
     pub level: Range,
     pub hyperperiod: Range,
+    pub point: Range,
+    pub form: Range,
+    pub old_form: u32,
     pub instant: Range,
     pub predecessor: Range,
     pub pending: u32,
@@ -33,17 +36,21 @@ pub struct Limits {
     pub limit: Range,
 }
 
-// A key: its name, filled up with zeros, the name's length, and the limits of its number (of `after`, of each number of its list).
+// A key: its name, filled up with zeros, the name's length, the limits of its number (of `after`, of each number of its list), and the first
+// form that has its line.
 pub struct Key {
     pub name: [u8; Table::NAME_LENGTH],
     pub length: usize,
     pub range: Range,
+    pub since: u32,
 }
 
-// A node: bit p - 1 of `after` is set for each predecessor p.
+// A node: its server jobs are ordered by release plus point, which in the old form is the period; bit p - 1 of `after` is set for each
+// predecessor p.
 pub struct Node {
     pub budget: u32,
     pub level: u32,
+    pub point: u32,
     pub after: u32,
 }
 
@@ -55,8 +62,9 @@ pub struct Graph {
     pub nodes: usize,
 }
 
-// The first `graphs` of `graph` and the first `nodes` of `node` are the table's; the rest are all zeros.
+// The form says which lines the table's text has. The first `graphs` of `graph` and the first `nodes` of `node` are the table's; the rest are all zeros.
 pub struct Table {
+    pub form: u32,
     pub processors: u32,
     pub rounds: u32,
     pub graphs: usize,
@@ -154,6 +162,17 @@ impl Table {
 
     pub const HYPERPERIOD_TO: u32 = 20_000;
 
+    pub const POINT_FROM: u32 = 0;
+
+    pub const POINT_TO: u32 = 20_000;
+
+    // The number after `form=`; a table that does not begin with that line is of the form before these.
+    pub const FORM_FROM: u32 = 2;
+
+    pub const FORM_TO: u32 = 2;
+
+    pub const OLD_FORM: u32 = Table::FORM_FROM - 1;
+
     pub const INSTANT_FROM: u32 = 0;
 
     pub const INSTANT_TO: u32 = 4_000_000_000;
@@ -194,12 +213,21 @@ impl Table {
     // No server job has this key.
     pub const NO_KEY: u32 = u32::MAX;
 
-    // The nine keys in the order in which they stand, and behind them that of a limit text (document 02, R-12).
+    // The keys of a table in the order in which they stand, and behind them that of a limit text (document 02, R-12).
     pub const NAME_LENGTH: usize = 10;
 
-    pub const KEY_COUNT: usize = 10;
+    pub const KEY_COUNT: usize = 12;
 
     const KEYS: [Key; Table::KEY_COUNT] = [
+        Key {
+            name: *b"form\0\0\0\0\0\0",
+            length: 4,
+            range: Range {
+                from: Table::FORM_FROM,
+                to: Table::FORM_TO,
+            },
+            since: Table::FORM_FROM,
+        },
         Key {
             name: *b"processors",
             length: 10,
@@ -207,6 +235,7 @@ impl Table {
                 from: Table::PROCESSORS_FROM,
                 to: Table::PROCESSORS_TO,
             },
+            since: Table::OLD_FORM,
         },
         Key {
             name: *b"rounds\0\0\0\0",
@@ -215,6 +244,7 @@ impl Table {
                 from: Table::ROUNDS_FROM,
                 to: Table::ROUNDS_TO,
             },
+            since: Table::OLD_FORM,
         },
         Key {
             name: *b"graphs\0\0\0\0",
@@ -223,6 +253,7 @@ impl Table {
                 from: Table::GRAPHS_FROM,
                 to: Table::GRAPHS_TO,
             },
+            since: Table::OLD_FORM,
         },
         Key {
             name: *b"period\0\0\0\0",
@@ -231,6 +262,7 @@ impl Table {
                 from: Table::PERIOD_FROM,
                 to: Table::PERIOD_TO,
             },
+            since: Table::OLD_FORM,
         },
         Key {
             name: *b"offset\0\0\0\0",
@@ -239,6 +271,7 @@ impl Table {
                 from: Table::OFFSET_FROM,
                 to: Table::OFFSET_TO,
             },
+            since: Table::OLD_FORM,
         },
         Key {
             name: *b"nodes\0\0\0\0\0",
@@ -247,6 +280,7 @@ impl Table {
                 from: Table::NODES_FROM,
                 to: Table::NODES_TO,
             },
+            since: Table::OLD_FORM,
         },
         Key {
             name: *b"budget\0\0\0\0",
@@ -255,6 +289,7 @@ impl Table {
                 from: Table::BUDGET_FROM,
                 to: Table::BUDGET_TO,
             },
+            since: Table::OLD_FORM,
         },
         Key {
             name: *b"level\0\0\0\0\0",
@@ -263,6 +298,16 @@ impl Table {
                 from: Table::LEVEL_FROM,
                 to: Table::LEVEL_TO,
             },
+            since: Table::OLD_FORM,
+        },
+        Key {
+            name: *b"point\0\0\0\0\0",
+            length: 5,
+            range: Range {
+                from: Table::POINT_FROM,
+                to: Table::POINT_TO,
+            },
+            since: Table::FORM_FROM,
         },
         Key {
             name: *b"after\0\0\0\0\0",
@@ -271,6 +316,7 @@ impl Table {
                 from: Table::PREDECESSOR_FROM,
                 to: Table::PREDECESSOR_TO,
             },
+            since: Table::OLD_FORM,
         },
         Key {
             name: *b"limit\0\0\0\0\0",
@@ -279,6 +325,7 @@ impl Table {
                 from: Table::LIMIT_FROM,
                 to: Table::LIMIT_TO,
             },
+            since: Table::OLD_FORM,
         },
     ];
 
@@ -331,6 +378,15 @@ impl Table {
                 from: Table::HYPERPERIOD_FROM,
                 to: Table::HYPERPERIOD_TO,
             },
+            point: Range {
+                from: Table::POINT_FROM,
+                to: Table::POINT_TO,
+            },
+            form: Range {
+                from: Table::FORM_FROM,
+                to: Table::FORM_TO,
+            },
+            old_form: Table::OLD_FORM,
             instant: Range {
                 from: Table::INSTANT_FROM,
                 to: Table::INSTANT_TO,
@@ -373,17 +429,35 @@ impl Table {
             7 => keys[7],
             8 => keys[8],
             9 => keys[9],
+            10 => keys[10],
+            11 => keys[11],
             _ => Key {
                 name: [0u8; Table::NAME_LENGTH],
                 length: 0,
                 range: Range { from: 0, to: 0 },
+                since: Table::OLD_FORM,
             },
         }
     }
 
+    // Whether a form has the line of key k: its own lines, and those of the forms before it.
+    pub fn has_line(form: u32, k: usize) -> bool
+        ensures { λ r. ⌜ r ≡ hasLine form k ⌝ }
+    {
+        let key = Table::key(k);
+        key.since <= form
+    }
+
+    // Whether a first line tells the form: of every form but the old one.
+    pub fn tells_form(form: u32) -> bool
+        ensures { λ r. ⌜ r ≡ tellsForm form ⌝ }
+    {
+        form != Table::OLD_FORM
+    }
+
     // A table with no graph.
-    pub fn empty(processors: u32, rounds: u32) -> Table
-        ensures { λ r. ⌜ r ≡ emptyTable processors rounds ⌝ }
+    pub fn empty(form: u32, processors: u32, rounds: u32) -> Table
+        ensures { λ r. ⌜ r ≡ emptyTable form processors rounds ⌝ }
     {
         let g = Graph {
             period: 0,
@@ -394,9 +468,11 @@ impl Table {
         let x = Node {
             budget: 0,
             level: 0,
+            point: 0,
             after: 0,
         };
         Table {
+            form,
             processors,
             rounds,
             graphs: 0,

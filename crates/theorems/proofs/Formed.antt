@@ -38,6 +38,7 @@ limits-within r v h l = both (le-leb (r .from) v h) (le-leb v (r .to) l)
 pub record NodeFormed (v : ℕ) (x : Node) (xs : List Node) : Type 0 where
   pub budget : within Limits.budget (x .budget) ≡ true
   pub level : within Limits.level (x .level) ≡ true
+  pub point : within Limits.point (x .point) ≡ true
   pub order : orderly v (x .after) ≡ true
   pub others : nodesFormed (suc v) xs ≡ true
 
@@ -46,13 +47,17 @@ unfolding nodesFormed
 node-formed v x xs e =
     let b = within Limits.budget (x .budget) in
     let l = within Limits.level (x .level) in
+    let p = within Limits.point (x .point) in
     let o = orderly v (x .after) in
-    let here = first-of (b && (l && o)) (nodesFormed (suc v) xs) e in
+    let here = first-of (b && (l && (p && o))) (nodesFormed (suc v) xs) e in
+    let i = second-of b (l && (p && o)) here in
+    let j = second-of l (p && o) i in
     record {
-      budget = first-of b (l && o) here;
-      level = first-of l o (second-of b (l && o) here);
-      order = second-of l o (second-of b (l && o) here);
-      others = second-of (b && (l && o)) (nodesFormed (suc v) xs) e;
+      budget = first-of b (l && (p && o)) here;
+      level = first-of l (p && o) i;
+      point = first-of p o j;
+      order = second-of p o j;
+      others = second-of (b && (l && (p && o))) (nodesFormed (suc v) xs) e;
     }
 
 pub record GraphFormed (G : Graph) : Type 0 where
@@ -82,6 +87,7 @@ graph-formed G e =
     }
 
 pub record TableFormed (T : Table) : Type 0 where
+  pub form : within Limits.forms (T .form) ≡ true
   pub processors : within Limits.processors (T .processors) ≡ true
   pub rounds : within Limits.rounds (T .rounds) ≡ true
   pub few : within Limits.graphs (length (T .graphs)) ≡ true
@@ -91,16 +97,19 @@ pub record TableFormed (T : Table) : Type 0 where
 pub table-formed : (T : Table) → wellFormed T ≡ true → TableFormed T
 unfolding wellFormed
 table-formed T e =
+    let m = within Limits.forms (T .form) in
     let p = within Limits.processors (T .processors) in
     let r = within Limits.rounds (T .rounds) in
     let g = within Limits.graphs (length (T .graphs)) in
     let f = all? graphFormed (T .graphs) in
     let n = within Limits.allNodes (sum (λ (G : Graph). length (G .nodes)) (T .graphs)) in
-    let i = second-of p (r && (g && (f && n))) e in
+    let h = second-of m (p && (r && (g && (f && n)))) e in
+    let i = second-of p (r && (g && (f && n))) h in
     let j = second-of r (g && (f && n)) i in
     let k = second-of g (f && n) j in
     record {
-      processors = first-of p (r && (g && (f && n))) e;
+      form = first-of m (p && (r && (g && (f && n)))) e;
+      processors = first-of p (r && (g && (f && n))) h;
       rounds = first-of r (g && (f && n)) i;
       few = first-of g (f && n) j;
       graphs = first-of f n k;

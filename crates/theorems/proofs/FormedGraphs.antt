@@ -43,14 +43,16 @@ unfolding nodesFormed
 nodes-formed v x xs t =
     let A = within Limits.budget (x .budget) in
     let B = within Limits.level (x .level) in
-    let C = orderly v (x .after) in
+    let C = within Limits.point (x .point) in
+    let D = orderly v (x .after) in
     let N = nodesFormed (suc v) xs in
-    let n = and-l (A && (B && C)) N t in
+    let n = and-l (A && (B && (C && D))) N t in
+    let m = and-r A (B && (C && D)) n in
     record {
-      budget-some = leb→le 1 (x .budget) (and-l (leb 1 (x .budget)) (leb (x .budget) (Limits.budget .to)) (and-l A (B && C) n));
-      level-some = leb→le 1 (x .level) (and-l (leb 1 (x .level)) (leb (x .level) (Limits.level .to)) (and-l B C (and-r A (B && C) n)));
-      after-below = orderly-below v (x .after) (and-r B C (and-r A (B && C) n));
-      rest = and-r (A && (B && C)) N t;
+      budget-some = leb→le 1 (x .budget) (and-l (leb 1 (x .budget)) (leb (x .budget) (Limits.budget .to)) (and-l A (B && (C && D)) n));
+      level-some = leb→le 1 (x .level) (and-l (leb 1 (x .level)) (leb (x .level) (Limits.level .to)) (and-l B (C && D) m));
+      after-below = orderly-below v (x .after) (and-r C D (and-r B (C && D) m));
+      rest = and-r (A && (B && (C && D))) N t;
     }
 
 pub record GraphFormed (G : Graph) : Type 0 where
@@ -86,9 +88,11 @@ largest-at f {x} (List·Memᴰ·tail {x = y} {xs = ys} m) = omega (arith, larges
 pub formed : (X : Table) → T (wellFormed X) → (G : Graph) → List·Memᴰ G (X .graphs) → GraphFormed G
 unfolding wellFormed
 formed X t G m =
+    let F = within Limits.forms (X .form) in
     let A = within Limits.processors (X .processors) in
     let B = within Limits.rounds (X .rounds) in
     let C = within Limits.graphs (length (X .graphs)) in
     let D = all? graphFormed (X .graphs) in
     let E = within Limits.allNodes (sum (λ (G : Graph). length (G .nodes)) (X .graphs)) in
-    graph-formed G (all-at graphFormed m (and-l D E (and-r C (D && E) (and-r B (C && (D && E)) (and-r A (B && (C && (D && E))) t)))))
+    let o = and-r F (A && (B && (C && (D && E)))) t in
+    graph-formed G (all-at graphFormed m (and-l D E (and-r C (D && E) (and-r B (C && (D && E)) (and-r A (B && (C && (D && E))) o)))))

@@ -20,14 +20,14 @@ use Rattle.numbers.specs.Masks.{bit}
 use Rattle.table.specs.declared.Pending.{Pending}
 use Rattle.table.specs.declared.State.{State}
 use Rattle.window.specs.declared.Plan.{Plan}
-use Rattle.window.specs.Entries.{places, window, slots, lastKey, slotOf, serverAt, countAt, firstAt, unfinishedAt, unlinkedAt, worstAt, nextAt, leftAt, budgetAt, afterAt, levelAt, periodAt, stepAt, leadAt, roomAt}
+use Rattle.window.specs.Entries.{places, window, slots, lastKey, slotOf, serverAt, countAt, firstAt, unfinishedAt, unlinkedAt, worstAt, nextAt, leftAt, budgetAt, afterAt, levelAt, periodAt, pointAt, stepAt, leadAt, roomAt}
 
 -- an instant and a point far below those at which a key would no longer fit
 abbrev pub lastInstant : ℕ
 lastInstant = Limits.offset .to + Limits.rounds .to * Limits.hyperperiod .to
 
 abbrev pub lastPoint : ℕ
-lastPoint = Limits.period .to
+lastPoint = Limits.point .to
 
 module _ (X : Box) (plan : Plan) where
   abbrev pub S : List Server
@@ -40,6 +40,7 @@ module _ (X : Box) (plan : Plan) where
     pub after : (p : ℕ) → p < places → bit (afterAt plan i) p ≡ any? (eqb p) ((srv S i) .predecessors)
     pub level : levelAt plan i ≡ (srv S i) .level
     pub period : periodAt plan i ≡ (srv S i) .period
+    pub point : pointAt plan i ≡ (srv S i) .point
     pub step : stepAt plan i ≡ (srv S i) .period * places
     pub lead : leadAt plan i ≡ (srv S i) .point * places + i
     -- what the rules' box has at i

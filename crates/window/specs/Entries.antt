@@ -77,6 +77,9 @@ module _ (plan : Plan) where
   abbrev pub periodAt : ℕ → ℕ
   periodAt i = getD (plan .period) i 0
 
+  abbrev pub pointAt : ℕ → ℕ
+  pointAt i = getD (plan .point) i 0
+
   abbrev pub stepAt : ℕ → ℕ
   stepAt i = getD (plan .step) i 0
 

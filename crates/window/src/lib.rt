@@ -3,7 +3,7 @@
 use table::Seen;
 use table::Table;
 
-// By place: the node's budget; its predecessors, bit p for the node at place p; its level; its graph's period; how far the keys of two server
+// By place: the node's budget; its predecessors, bit p for the node at place p; its level; its graph's period; its point; how far the keys of two server
 // jobs in a row lie apart, period × SERVERS; what a key is above its release × SERVERS, point × SERVERS + place; how many unfinished jobs make a
 // backlog of one release more (UNFINISHED for a sink, more than a node can have elsewhere); and the numbers of its graph and of itself in
 // the graph, for the row. Numbers only, so that each array can be lent.
@@ -14,6 +14,7 @@ pub struct Plan {
     pub after: [u32; Table::SERVERS],
     pub level: [u8; Table::SERVERS],
     pub period: [u32; Table::SERVERS],
+    pub point: [u32; Table::SERVERS],
     pub step: [u32; Table::SERVERS],
     pub lead: [u32; Table::SERVERS],
     pub room: [u8; Table::SERVERS],

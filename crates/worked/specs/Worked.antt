@@ -14,7 +14,7 @@ use Rattle.schedule.specs.Links.{links, dueBy}
 use Rattle.schedule.specs.Walk.{Walked, unsettled}
 use Rattle.rules.specs.Admission.{Admission, admitted, refused, admissionOf}
 use Rattle.rules.specs.Answers.{printed, reportAdmitted, rowAdmitted}
-use Rattle.rules.specs.Cases.{node-1-every-4, chain-1-1, chain-1-1-in-1-round, chain-3-2, chain-4-4, two-graphs}
+use Rattle.rules.specs.Cases.{node-1-every-4, chain-1-1, chain-1-1-in-1-round, chain-3-2, chain-4-4, two-graphs, gauge-first, tie-of-points, node-1-every-4-in-form-2}
 
 -- what is said of a table
 pub data Statement : Type 0 where
@@ -75,6 +75,13 @@ level-1-in-47-rounds = "processors=2\nrounds=47\ngraphs=1\nperiod=2\noffset=0\nn
 abbrev pub two-offsets : String
 two-offsets = "processors=1\nrounds=64\ngraphs=2\nperiod=4\noffset=0\nnodes=1\nbudget=2\nlevel=1\nafter=none\nperiod=8\noffset=1\nnodes=1\nbudget=3\nlevel=1\nafter=none\n"
 
+-- R-9: a point of 0; and a chain whose second node has the smaller point
+abbrev pub point-0 : String
+point-0 = "form=2\nprocessors=1\nrounds=64\ngraphs=2\nperiod=4\noffset=0\nnodes=1\nbudget=2\nlevel=1\npoint=4\nafter=none\nperiod=4\noffset=1\nnodes=1\nbudget=1\nlevel=1\npoint=0\nafter=none\n"
+
+abbrev pub chain-in-form-2 : String
+chain-in-form-2 = "form=2\nprocessors=1\nrounds=64\ngraphs=1\nperiod=4\noffset=0\nnodes=2\nbudget=1\nlevel=1\npoint=4\nafter=none\nbudget=1\nlevel=1\npoint=2\nafter=1\n"
+
 -- periods that a number of 16, 32 or 64 bits would take for 4: the marked tables do not see digits that wrap
 abbrev pub period-2¹⁶+4 : String
 period-2¹⁶+4 = "processors=1\nrounds=64\ngraphs=1\nperiod=65540\noffset=0\nnodes=1\nbudget=1\nlevel=1\nafter=none\n"
@@ -99,6 +106,11 @@ workedTables =
     ∷ record { table = level-1-in-47-rounds; says = prints "answer=12\nline=0\ncolumn=0\n" ∷ printsRow 92 "answer=12\nline=0\ncolumn=0\n" ∷ [] }
     ∷ record { table = two-graphs; says = prints "answer=0\nround=1\nticks=4\nresponse=1\nresponse=2\n" ∷ [] }
     ∷ record { table = two-offsets; says = prints "answer=0\nround=1\nticks=9\nresponse=2\nresponse=6\n" ∷ [] }
+    ∷ record { table = node-1-every-4-in-form-2; says = prints "answer=0\nround=1\nticks=4\nresponse=1\n" ∷ [] }
+    ∷ record { table = gauge-first; says = prints "answer=0\nround=1\nticks=8\nresponse=3\nresponse=4\n" ∷ printsRow 3 "run=2,1,1,1\n" ∷ [] }
+    ∷ record { table = tie-of-points; says = prints "answer=0\nround=1\nticks=5\nresponse=1\nresponse=4\n" ∷ [] }
+    ∷ record { table = point-0; says = prints "answer=0\nround=1\nticks=5\nresponse=3\nresponse=1\n" ∷ printsRow 1 "run=2,1,1,1\n" ∷ [] }
+    ∷ record { table = chain-in-form-2; says = prints "answer=0\nround=2\nticks=8\nresponse=5\n" ∷ printsRow 0 "run=1,2,1,0\n" ∷ [] }
     ∷ record { table = period-2¹⁶+4; says = prints "answer=3\nline=4\ncolumn=8\n" ∷ [] }
     ∷ record { table = period-2³²+4; says = prints "answer=3\nline=4\ncolumn=8\n" ∷ [] }
     ∷ record { table = period-2⁶⁴+4; says = prints "answer=3\nline=4\ncolumn=8\n" ∷ [] }

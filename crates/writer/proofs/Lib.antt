@@ -1,7 +1,9 @@
 pub mod Scanned
 pub mod LineText
+pub mod Settling
 pub mod WrittenLength
 pub mod WrittenRead
 pub mod ReadWritten
 pub mod WriterAnswers
+pub mod OldForm
 pub mod Cases

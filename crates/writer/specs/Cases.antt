@@ -1,5 +1,5 @@
--- Worked cases of writing: document 01's table of 12 lines, and what becomes of it when it breaks a limit or a predecessor rule in memory. They
--- are computed in proofs/Cases.antt.
+-- Worked cases of writing: document 01's table of 12 lines, one with points, and what becomes of them when they break a limit or a predecessor
+-- rule in memory. They are computed in proofs/Cases.antt.
 use mathlib.Core.List.{List, [], _∷_, _++_}
 use Prim.Native.Nat.{ℕ}
 use Rattle.schedule.specs.Table.{Node, Table}
@@ -20,6 +20,10 @@ three second third = Described.node 1 1 [] ∷ Described.node 1 1 second ∷ Des
 -- one node
 abbrev pub ones : List Node
 ones = Described.one 1 1
+
+-- a table of any form with one graph of period 4
+abbrev pub ofForm : ℕ → ℕ → List Node → Table
+ofForm f p xs = record { form = f; processors = p; rounds = 1; graphs = Described.pointedGraph 4 0 xs ∷ [] }
 
 pub record WriteCase : Type 0 where
   pub table : Table
@@ -55,4 +59,17 @@ writes =
     -- a missing successor, on the graph's last line, once that passes and before the next graph
     ∷ case (of 1 1 4 0 (three (1 ∷ []) (1 ∷ []))) (refuses (AgainstPredecessorRules 15 0))
     ∷ case (Described.table 1 1 (Described.graph 4 0 (three (1 ∷ []) (1 ∷ [])) ∷ Described.graph 0 0 [] ∷ [])) (refuses (AgainstPredecessorRules 15 0))
+    -- form 2 has its first line and the points
+    ∷ case (ofForm 2 1 (Described.pointedNode 1 1 7 [] ∷ Described.pointedNode 1 1 0 (1 ∷ []) ∷ []))
+    (says (bytes "form=2\nprocessors=1\nrounds=1\ngraphs=1\nperiod=4\noffset=0\nnodes=2\nbudget=1\nlevel=1\npoint=7\nafter=none\nbudget=1\nlevel=1\npoint=0\nafter=1\n"))
+    ∷ case (ofForm 2 1 (Described.pointed 1 20000)) (says (bytes "form=2\nprocessors=1\nrounds=1\ngraphs=1\nperiod=4\noffset=0\nnodes=1\nbudget=1\nlevel=1\npoint=20000\nafter=none\n"))
+    ∷ case (ofForm 2 9 (Described.pointed 1 20001)) (refuses (OutsideLimits 2 0))
+    ∷ case (ofForm 2 1 (Described.pointedNode 1 5 20001 [] ∷ [])) (refuses (OutsideLimits 9 0))
+    ∷ case (ofForm 2 1 (Described.pointedNode 1 1 20001 (1 ∷ []) ∷ [])) (refuses (OutsideLimits 10 0))
+    ∷ case (ofForm 2 1 (Described.pointedNode 1 1 0 (1 ∷ []) ∷ [])) (refuses (AgainstPredecessorRules 11 0))
+    -- the old form has neither, and a point that it has in memory is not judged
+    ∷ case (ofForm 1 1 (Described.pointed 1 20001)) (says (bytes "processors=1\nrounds=1\ngraphs=1\nperiod=4\noffset=0\nnodes=1\nbudget=1\nlevel=1\nafter=none\n"))
+    -- no other form, before any later line
+    ∷ case (ofForm 0 9 (Described.pointed 1 4)) (refuses (OutsideLimits 1 0))
+    ∷ case (ofForm 3 9 (Described.pointed 1 4)) (refuses (OutsideLimits 1 0))
     ∷ []

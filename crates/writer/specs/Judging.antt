@@ -11,7 +11,7 @@ use Rattle.schedule.specs.WellFormed.{within, orderly, allFollowed}
 use Rattle.format.specs.declared.Refusal.{Refusal}
 use Rattle.format.specs.declared.Refusal.the-variants.{OutsideLimits, AgainstPredecessorRules}
 use Rattle.format.specs.Keys as Keys
-use Rattle.format.specs.Keys.{keyAt}
+use Rattle.format.specs.Keys.{keyAt, hasLine, tellsForm}
 use Rattle.rules.specs.Answers.{Reply, says, refuses}
 use Rattle.writer.specs.Writing.{writtenOf}
 
@@ -37,44 +37,54 @@ numberAt k v l = cond (within (keyAt k .range) v) (passes (suc l)) (fails (Outsi
 unfoldable pub afterAt : ℕ → List ℕ → ℕ → Judgement
 afterAt own vs l = cond (orderly own vs) (passes (suc l)) (fails (AgainstPredecessorRules l noColumn))
 
+-- a node's point, in a table of form f: it is not judged where the form has no line for it
+unfoldable pub pointAt : ℕ → ℕ → ℕ → Judgement
+pointAt f v l = cond (hasLine f Keys.point) (numberAt Keys.point v l) (passes l)
+
 -- from line l on
-unfoldable pub nodeAt : ℕ → Node → ℕ → Judgement
-nodeAt own x l =
+unfoldable pub nodeAt : ℕ → ℕ → Node → ℕ → Judgement
+nodeAt f own x l =
     numberAt Keys.budget (x .budget) l then λ l.
     numberAt Keys.level (x .level) l then λ l.
+    pointAt f (x .point) l then λ l.
     afterAt own (x .after) l
 
-unfoldable pub nodesAt : ℕ → List Node → ℕ → Judgement
-nodesAt own [] l = passes l
-nodesAt own (x ∷ xs) l = nodeAt own x l then λ l. nodesAt (suc own) xs l
+unfoldable pub nodesAt : ℕ → ℕ → List Node → ℕ → Judgement
+nodesAt f own [] l = passes l
+nodesAt f own (x ∷ xs) l = nodeAt f own x l then λ l. nodesAt f (suc own) xs l
 
 -- the missing successor is judged after the graph's last line passes, which is the line before e, and is charged to it
 unfoldable pub successorsAt : List Node → ℕ → Judgement
 successorsAt xs e = cond (allFollowed xs) (passes e) (fails (AgainstPredecessorRules (e - 1) noColumn))
 
 -- a graph's nodes from line m on, where `nodes` stands on line l and the graphs before it have `total` nodes
-unfoldable pub graphNodesAt : ℕ → List Node → ℕ → ℕ → Judgement
-graphNodesAt total xs l m =
-    let rest : Judgement = nodesAt 1 xs m then λ e. successorsAt xs e in
+unfoldable pub graphNodesAt : ℕ → ℕ → List Node → ℕ → ℕ → Judgement
+graphNodesAt f total xs l m =
+    let rest : Judgement = nodesAt f 1 xs m then λ e. successorsAt xs e in
     cond (leb (total + length xs) (Limits.allNodes .to)) rest (fails (OutsideLimits l noColumn))
 
-unfoldable pub graphAt : ℕ → Graph → ℕ → Judgement
-graphAt total G l =
+unfoldable pub graphAt : ℕ → ℕ → Graph → ℕ → Judgement
+graphAt f total G l =
     numberAt Keys.period (G .period) l then λ l.
     numberAt Keys.offset (G .offset) l then λ l.
     numberAt Keys.nodes (length (G .nodes)) l then λ m.
-    graphNodesAt total (G .nodes) l m
+    graphNodesAt f total (G .nodes) l m
 
-unfoldable pub graphsAt : ℕ → List Graph → ℕ → Judgement
-graphsAt total [] l = passes l
-graphsAt total (G ∷ Gs) l = graphAt total G l then λ l. graphsAt (total + length (G .nodes)) Gs l
+unfoldable pub graphsAt : ℕ → ℕ → List Graph → ℕ → Judgement
+graphsAt f total [] l = passes l
+graphsAt f total (G ∷ Gs) l = graphAt f total G l then λ l. graphsAt f (total + length (G .nodes)) Gs l
+
+-- the form: the old one has no line, any other is judged on the first
+unfoldable pub formAt : ℕ → ℕ → Judgement
+formAt f l = cond (tellsForm f) (numberAt Keys.form f l) (passes l)
 
 unfoldable pub tableAt : Table → ℕ → Judgement
 tableAt T l =
+    formAt (T .form) l then λ l.
     numberAt Keys.processors (T .processors) l then λ l.
     numberAt Keys.rounds (T .rounds) l then λ l.
     numberAt Keys.graphs (length (T .graphs)) l then λ l.
-    graphsAt 0 (T .graphs) l
+    graphsAt (T .form) 0 (T .graphs) l
 
 -- what the writer answers, before the buffer is looked at
 abbrev pub written : List ℕ → Judgement → Reply

@@ -18,13 +18,13 @@ abbrev pub longestList : ℕ
 longestList = Limits.predecessor .to * suc (length (decimal (Limits.predecessor .to))) - 1
 
 abbrev pub longestNode : ℕ
-longestNode = longestNumber Keys.budget + longestNumber Keys.level + lineWith Keys.after longestList
+longestNode = longestNumber Keys.budget + longestNumber Keys.level + longestNumber Keys.point + lineWith Keys.after longestList
 
 abbrev pub longestGraphHead : ℕ
 longestGraphHead = longestNumber Keys.period + longestNumber Keys.offset + longestNumber Keys.nodes
 
 abbrev pub longestTableHead : ℕ
-longestTableHead = longestNumber Keys.processors + longestNumber Keys.rounds + longestNumber Keys.graphs
+longestTableHead = longestNumber Keys.form + longestNumber Keys.processors + longestNumber Keys.rounds + longestNumber Keys.graphs
 
 -- the text of a table
 abbrev pub longestWritten : ℕ

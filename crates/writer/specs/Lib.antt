@@ -1,4 +1,5 @@
 pub mod Writing
 pub mod Judging
 pub mod Lengths
+pub mod Settled
 pub mod Cases

@@ -5,7 +5,7 @@ use crate::table::Table;
 /// A ready server job: its key and where it is.
 #[derive(Clone, Copy, Default)]
 pub struct Ready {
-    /// Deadline times 32 plus place: deadline, graph, node in one number.
+    /// Release plus point, times 32, plus place: the order by these, graph and node in one number.
     pub key: u32,
     pub graph: u8,
     pub place: u8,

@@ -111,9 +111,10 @@ impl<'a> Engine<'a> {
             let newest = self.now + self.phases[index].until;
             for place in graph.first..graph.first + graph.nodes {
                 let server = &self.servers[place];
-                for slot in 0..server.count.min(self.table.nodes[place].level as usize) {
-                    let deadline = newest - (server.count - 1 - slot) as u32 * graph.period;
-                    let key = deadline * Table::NODES as u32 + place as u32;
+                let node = &self.table.nodes[place];
+                for slot in 0..server.count.min(node.level as usize) {
+                    let release = newest - (server.count - slot) as u32 * graph.period;
+                    let key = (release + node.point) * Table::NODES as u32 + place as u32;
                     let (graph, place, slot) = (index as u8, place as u8, slot as u8);
                     self.chosen.consider(Ready { key, graph, place, slot });
                 }

@@ -6,6 +6,7 @@ use crate::table::{Graph, Node, Table};
 /// A key, and the least and the largest number it takes.
 type Key = (&'static [u8], u32, u32);
 
+const FORM: Key = (b"form=", 2, 2);
 const PROCESSORS: Key = (b"processors=", 1, Table::PROCESSORS as u32);
 const ROUNDS: Key = (b"rounds=", 1, 64);
 const GRAPHS: Key = (b"graphs=", 1, Table::GRAPHS as u32);
@@ -14,6 +15,7 @@ const OFFSET: Key = (b"offset=", 0, 10_000);
 const NODES: Key = (b"nodes=", 1, 16);
 const BUDGET: Key = (b"budget=", 1, 10_000);
 const LEVEL: Key = (b"level=", 1, Table::LEVEL as u32);
+const POINT: Key = (b"point=", 0, Table::POINT);
 const AFTER: &[u8] = b"after=";
 
 /// A value that stands for every number too large for any limit.
@@ -23,8 +25,12 @@ pub fn read(bytes: &[u8]) -> Result<Table, Answer> {
     if bytes.len() > Table::BYTES {
         return Err(Answer::refusal(1));
     }
-    let mut reader = Reader { bytes, position: 0, line: 0, start: 0 };
+    let pointed = bytes.first() == Some(&b'f');
+    let mut reader = Reader { bytes, position: 0, line: 0, start: 0, pointed };
     let mut table = Table::empty();
+    if pointed {
+        reader.number_line(FORM)?;
+    }
     table.processors = reader.number_line(PROCESSORS)?;
     table.rounds = reader.number_line(ROUNDS)?;
     table.graph_count = reader.number_line(GRAPHS)? as usize;
@@ -38,12 +44,14 @@ pub fn read(bytes: &[u8]) -> Result<Table, Answer> {
     Ok(table)
 }
 
-/// The lent bytes, the position reached, the number of the current line and where it starts.
+/// The lent bytes, the position reached, the number of the current line and where it starts, and whether
+/// the table's form has points.
 struct Reader<'a> {
     bytes: &'a [u8],
     position: usize,
     line: u32,
     start: usize,
+    pointed: bool,
 }
 
 impl Reader<'_> {
@@ -71,9 +79,10 @@ impl Reader<'_> {
         for own in 0..nodes {
             let budget = self.number_line(BUDGET)?;
             let level = self.number_line(LEVEL)?;
+            let point = if self.pointed { self.number_line(POINT)? } else { period };
             let after = self.after_line(own as u32)?;
             without_successor &= !after;
-            table.nodes[first + own] = Node { budget, level, after };
+            table.nodes[first + own] = Node { budget, level, point, after };
         }
         if without_successor != 0 { self.refuse_at(4, self.start) } else { Ok(()) }
     }

@@ -13,6 +13,8 @@ pub struct Graph {
 pub struct Node {
     pub budget: u32,
     pub level: u32,
+    /// Added to a release it gives the priority; in the old form the period.
+    pub point: u32,
     /// Bit n - 1 stands for predecessor n of the same graph.
     pub after: u32,
 }
@@ -36,6 +38,7 @@ impl Table {
     pub const UNFINISHED: u32 = 64;
     pub const LEVEL: usize = 4;
     pub const HYPERPERIOD: u32 = 20_000;
+    pub const POINT: u32 = 20_000;
 
     pub fn empty() -> Table {
         Table {

@@ -57,6 +57,7 @@ pub struct Tuned {
     plan: [Plan; PLACES],
     level: [u8; PLACES],
     step: [u32; PLACES],
+    lead: [u32; PLACES],
     windows: [[Pending; Table::PENDING]; PLACES],
     counts: [Counts; PLACES],
     first: [u32; PLACES],
@@ -76,6 +77,7 @@ impl Tuned {
             plan: [Plan::default(); PLACES],
             level: [0; PLACES],
             step: [0; PLACES],
+            lead: [0; PLACES],
             windows: [[Pending::default(); Table::PENDING]; PLACES],
             counts: [Counts::default(); PLACES],
             first: [NO_KEY; PLACES],
@@ -99,6 +101,7 @@ impl Tuned {
                 };
                 tuned.level[place] = node.level as u8;
                 tuned.step[place] = graph.period * PLACES as u32;
+                tuned.lead[place] = node.point * PLACES as u32;
                 tuned.next[place] = graph.offset;
             }
         }
@@ -195,7 +198,7 @@ impl Tuned {
             let behind = if due { counts.unlinked } else { 0 };
             self.windows[place][slot] = Pending { left: plan.budget, behind, linked: due };
             if slot == 0 {
-                self.first[place] = self.now * PLACES as u32 + self.step[place] + place as u32;
+                self.first[place] = self.now * PLACES as u32 + self.lead[place] + place as u32;
             }
             counts.pending += 1;
             counts.unfinished += 1;

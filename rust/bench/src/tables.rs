@@ -22,7 +22,7 @@ impl Case {
 const LARGEST: &[u8] = include_bytes!("../tables/largest.txt");
 
 fn node(budget: u32, level: u32, after: &[u32]) -> Node {
-    Node { budget, level, after: after.to_vec() }
+    Node { budget, level, point: 0, after: after.to_vec() }
 }
 
 /// A chain of nodes of one level.
@@ -37,10 +37,24 @@ fn chain(period: u32, offset: u32, level: u32, budgets: &[u32]) -> Graph {
 /// The worked tables of document 01 that are walked, and one that comes to a
 /// backlog though every node keeps up.
 pub fn document() -> Vec<Case> {
-    let one = |processors, rounds, graph| Table { processors, rounds, graphs: vec![graph] };
-    let two = |one, other| Table { processors: 1, rounds: 64, graphs: vec![one, other] };
-    let late =
-        Table { processors: 2, rounds: 64, graphs: vec![chain(3, 0, 1, &[2, 2]), chain(546, 0, 1, &[364])] };
+    let one = |processors, rounds, graph| Table {
+        form: simulator::limits::OLD_FORM,
+        processors,
+        rounds,
+        graphs: vec![graph],
+    };
+    let two = |one, other| Table {
+        form: simulator::limits::OLD_FORM,
+        processors: 1,
+        rounds: 64,
+        graphs: vec![one, other],
+    };
+    let late = Table {
+        form: simulator::limits::OLD_FORM,
+        processors: 2,
+        rounds: 64,
+        graphs: vec![chain(3, 0, 1, &[2, 2]), chain(546, 0, 1, &[364])],
+    };
     vec![
         Case::new("one node of 1", &one(1, 64, chain(4, 0, 1, &[1]))),
         Case::new("chain 1, 1", &one(1, 64, chain(4, 0, 1, &[1, 1]))),
@@ -56,7 +70,8 @@ pub fn document() -> Vec<Case> {
 
 /// Periods 1 and 2, so that something happens in every tick.
 pub fn busy() -> Vec<Case> {
-    let table = |processors, graphs| Table { processors, rounds: 64, graphs };
+    let table =
+        |processors, graphs| Table { form: simulator::limits::OLD_FORM, processors, rounds: 64, graphs };
     let pairs = (0..14).map(|index| chain(2, index % 2, 1, &[1, 1]));
     vec![
         Case::new(
@@ -94,7 +109,7 @@ pub fn times_ten() -> Vec<Case> {
             chain(400 * scale, 20 * scale, 1, &[20, 60, 90, 15].map(|budget| budget * scale)),
             chain(800 * scale, 50 * scale, 2, &[300, 500].map(|budget| budget * scale)),
         ];
-        Table { processors: 2, rounds: 64, graphs }
+        Table { form: simulator::limits::OLD_FORM, processors: 2, rounds: 64, graphs }
     };
     vec![Case::new("as it is", &table(1)), Case::new("times 10", &table(10))]
 }
@@ -128,7 +143,12 @@ pub fn turbine() -> Vec<Case> {
         ],
     };
     let log = chain(4_000, 50, 1, &[300, 500]);
-    let table = Table { processors: 4, rounds: 64, graphs: vec![pitch, loads, yaw, monitoring, log] };
+    let table = Table {
+        form: simulator::limits::OLD_FORM,
+        processors: 4,
+        rounds: 64,
+        graphs: vec![pitch, loads, yaw, monitoring, log],
+    };
     vec![Case::new("turbine box", &table)]
 }
 
@@ -152,7 +172,7 @@ fn drifting(graphs: usize, nodes: usize, rounds: u32) -> Table {
         chain(period, if index == 0 { 10_000 } else { 11 * index as u32 }, 1, &budgets)
     };
     let graphs = PERIODS[..graphs].iter().enumerate().map(graph).collect();
-    Table { processors: 8, rounds, graphs }
+    Table { form: simulator::limits::OLD_FORM, processors: 8, rounds, graphs }
 }
 
 /// One table with more and more rounds, so with more and more ticks.
@@ -176,7 +196,12 @@ pub fn by_processors() -> Vec<Case> {
             let budget = (period * processors * 9 / 320).max(1);
             chain(period, 7 * index as u32, 1, &[budget; 4])
         };
-        Table { processors, rounds: 8, graphs: PERIODS.iter().enumerate().map(graph).collect() }
+        Table {
+            form: simulator::limits::OLD_FORM,
+            processors,
+            rounds: 8,
+            graphs: PERIODS.iter().enumerate().map(graph).collect(),
+        }
     };
     [1, 2, 4, 8].map(|processors| Case::new(format!("{processors} processors"), &table(processors))).into()
 }

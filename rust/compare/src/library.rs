@@ -192,21 +192,31 @@ impl Library for ProvedPlain {
 #[cfg(feature = "proved")]
 fn linked(memory: &Memory) -> phalandrix::Table {
     use simulator::memory::{MemoryGraph, MemoryNode};
-    let &Memory { processors, rounds, graphs, graph, node } = memory;
+    let &Memory { form, processors, rounds, graphs, graph, node } = memory;
     let graph =
         graph.map(|MemoryGraph { period, offset, nodes }| phalandrix::Graph { period, offset, nodes });
-    let node = node.map(|MemoryNode { budget, level, after }| phalandrix::Node { budget, level, after });
-    phalandrix::Table { processors, rounds, graphs, graph, node }
+    let node = node.map(|MemoryNode { budget, level, point, after }| phalandrix::Node {
+        budget,
+        level,
+        point,
+        after,
+    });
+    phalandrix::Table { form, processors, rounds, graphs, graph, node }
 }
 
 #[cfg(feature = "proved")]
 fn simulated(table: &phalandrix::Table) -> Memory {
     use simulator::memory::{MemoryGraph, MemoryNode};
-    let &phalandrix::Table { processors, rounds, graphs, graph, node } = table;
+    let &phalandrix::Table { form, processors, rounds, graphs, graph, node } = table;
     let graph =
         graph.map(|phalandrix::Graph { period, offset, nodes }| MemoryGraph { period, offset, nodes });
-    let node = node.map(|phalandrix::Node { budget, level, after }| MemoryNode { budget, level, after });
-    Memory { processors, rounds, graphs, graph, node }
+    let node = node.map(|phalandrix::Node { budget, level, point, after }| MemoryNode {
+        budget,
+        level,
+        point,
+        after,
+    });
+    Memory { form, processors, rounds, graphs, graph, node }
 }
 
 /// The names `by_name` knows, the default first.

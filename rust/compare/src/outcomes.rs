@@ -17,11 +17,16 @@ pub type Numbers = [u64; REFUSALS[REFUSALS.len() - 1] + 1];
 /// What the plain engine can answer: a text, or any refusal of a report or a row.
 const OF_PLAIN: [usize; 12] = [0, 1, 2, 3, 4, 5, 6, 7, 8, 9, 10, 12];
 
+/// What the report of a table that begins as one of form 2 can come to.
+const OF_POINTED: [usize; 9] = [0, 2, 3, 4, 5, 6, 7, 8, 12];
+
 /// How often each outcome came up.
 #[derive(Clone, Debug, Default, PartialEq, Eq)]
 pub struct Outcomes {
     /// Tables by the number of their report: 0 for one that settled, else the refusal.
     pub reports: Numbers,
+    /// The same, of those that begin as tables of form 2 do.
+    pub pointed: Numbers,
     /// Calls by the number of their answer.
     pub calls: Numbers,
     /// Rows answered at or past the stop.
@@ -60,6 +65,9 @@ impl Outcomes {
         let mut all: Vec<(String, u64)> = vec![("a settled table".into(), self.reports[0])];
         all.push(("a row past the stop".into(), self.far));
         all.extend(refusals);
+        all.extend(
+            OF_POINTED.map(|number| (format!("{number} for a table of form 2"), self.pointed[number])),
+        );
         all.push(("an answered call on several tables".into(), self.batches));
         if self.plain != Numbers::default() {
             all.extend(
@@ -82,6 +90,7 @@ impl AddAssign<&Outcomes> for Outcomes {
     fn add_assign(&mut self, other: &Outcomes) {
         let add = |to: &mut [u64], from: &[u64]| to.iter_mut().zip(from).for_each(|(to, from)| *to += from);
         add(&mut self.reports, &other.reports);
+        add(&mut self.pointed, &other.pointed);
         add(&mut self.calls, &other.calls);
         self.far += other.far;
         add(&mut self.plain, &other.plain);
@@ -101,6 +110,8 @@ impl fmt::Display for Outcomes {
         let tables: u64 = self.reports.iter().sum();
         let calls: u64 = self.calls.iter().sum();
         write!(out, "{tables} tables, {calls} calls, 0 differences; {} tables settled", self.reports[0])?;
+        let pointed: u64 = self.pointed.iter().sum();
+        write!(out, "; {pointed} tables of form 2, {} of them settled", self.pointed[0])?;
         write!(out, "; calls answered {}, rows past the stop {}", self.calls[0], self.far)?;
         for number in REFUSALS {
             write!(out, ", refused as {number} {}", self.calls[number])?;

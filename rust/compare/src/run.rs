@@ -87,6 +87,7 @@ fn run_seed(library: &dyn Library, seed: u64, by_force: bool, outcomes: &mut Out
         return Err(shrunken(library, seed, &table, difference));
     }
     outcomes.reports[report_number(&report)] += 1;
+    outcomes.pointed[report_number(&report)] += u64::from(table.starts_with(b"form="));
     outcomes.far += far;
     outcomes.calls.iter_mut().zip(calls).for_each(|(all, calls)| *all += calls);
     outcomes.plain.iter_mut().zip(plain).for_each(|(all, calls)| *all += calls);

@@ -2,8 +2,7 @@
 //! lowered, texts halved, as long as the property stays.
 
 use crate::loose;
-use simulator::reader;
-use simulator::{Graph, Table};
+use simulator::{Graph, Table, limits, reader};
 
 /// No more candidates than this are tried.
 const MOST_TRIES: usize = 20_000;
@@ -32,7 +31,8 @@ pub fn shrink(table: &[u8], mut holds: impl FnMut(&[u8]) -> bool) -> Vec<u8> {
 fn candidates(text: &[u8]) -> Vec<Vec<u8>> {
     let mut smaller = Vec::new();
     if let Some((table, tail)) = table_and_tail(text) {
-        let mut tables = without_graphs(&table);
+        let mut tables = in_old_form(&table);
+        tables.extend(without_graphs(&table));
         tables.extend(without_nodes(&table));
         tables.extend(with_lower_numbers(&table));
         tables.extend(with_shorter_lists(&table));
@@ -138,9 +138,16 @@ fn with_lower_numbers(table: &Table) -> Vec<Table> {
             smaller.extend(budgets.map(|n| changed(table, |t| t.graphs[g].nodes[i].budget = n)));
             let levels = lower(node.level, 1).into_iter();
             smaller.extend(levels.map(|n| changed(table, |t| t.graphs[g].nodes[i].level = n)));
+            let points = lower(if table.has_points() { node.point } else { 0 }, 0).into_iter();
+            smaller.extend(points.map(|n| changed(table, |t| t.graphs[g].nodes[i].point = n)));
         }
     }
     smaller
+}
+
+/// A table with points in the old form.
+fn in_old_form(table: &Table) -> Vec<Table> {
+    if table.has_points() { vec![changed(table, |t| t.form = limits::OLD_FORM)] } else { vec![] }
 }
 
 /// Lists with one number less, where every node keeps a successor.

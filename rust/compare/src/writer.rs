@@ -93,13 +93,17 @@ fn written(library: &dyn Library, memory: &Memory, length: usize, seen: &mut See
 /// A content of memory: all of it random, or a table in which some numbers are others.
 fn content(memory: Memory, rng: &mut Rng) -> Memory {
     let mut content = memory;
+    if rng.once_in(4) {
+        content.form = rng.pick(&[0, 1, 2, 3, u32::MAX]);
+    }
     if rng.once_in(2) {
         let mut any = || number(rng);
         content.processors = any();
         content.rounds = any();
         content.graphs = any();
         content.graph = std::array::from_fn(|_| MemoryGraph { period: any(), offset: any(), nodes: any() });
-        content.node = std::array::from_fn(|_| MemoryNode { budget: any(), level: any(), after: any() });
+        content.node =
+            std::array::from_fn(|_| MemoryNode { budget: any(), level: any(), point: any(), after: any() });
         return content;
     }
     for _ in 0..1 + rng.below(3) {

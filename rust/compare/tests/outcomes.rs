@@ -18,6 +18,7 @@ fn all() -> Outcomes {
         Mendings { texts: 1, unchanged: 1, fixes: [1; KINDS + 1], answered: 1, too_long: 1, short: 1 };
     Outcomes {
         reports: once,
+        pointed: once,
         calls: once,
         far: 1,
         plain: once,
@@ -61,6 +62,11 @@ fn each_outcome_is_missed() {
             "a salvage refused as 10"
         ]
     );
+    for number in [0, 2, 3, 4, 5, 6, 7, 8, 12] {
+        let mut without = all();
+        without.pointed[number] = 0;
+        assert_eq!(without.missing(true), [format!("{number} for a table of form 2")]);
+    }
     let mut unsettled = all();
     unsettled.reports[0] = 0;
     assert_eq!(unsettled.missing(true), ["a settled table"]);

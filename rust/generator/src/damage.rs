@@ -1,10 +1,11 @@
 //! Texts that are damaged, or were never tables.
 
 use crate::kinds::{self, Kind};
+use crate::points;
 use crate::rng::Rng;
 
 /// Bytes that stand close to the spelling of a table.
-const BYTES: &[u8] = b"0123456789=,\n\r \t\0-+.xan\x7f\x80\xff";
+const BYTES: &[u8] = b"0123456789=,\n\r \t\0-+.xanfp\x7f\x80\xff";
 
 /// Bytes after the last line.
 const TAILS: [&[u8]; 6] = [b"\n", b"x", b"\0", b"after=none\n", b" ", b"\r\n"];
@@ -42,7 +43,11 @@ pub fn text(rng: &mut Rng) -> Vec<u8> {
         return noise(rng);
     }
     let kind = rng.pick(&[Kind::SmallAndBusy, Kind::Wide, Kind::ManyRounds, Kind::Levels]);
-    let mut text = kinds::valid(rng, kind).text().into_bytes();
+    let mut table = kinds::valid(rng, kind);
+    if rng.once_in(2) {
+        points::give_points(rng, &mut table);
+    }
+    let mut text = table.text().into_bytes();
     let hurts = if rng.once_in(4) { 2 } else { 1 };
     for _ in 0..hurts {
         hurt(rng, &mut text);

@@ -102,13 +102,14 @@ fn frame(rng: &mut Rng, frame: &Frame) -> Table {
     if graphs.is_empty() {
         graphs.push(graph_of_ones(rng, *divisors.last().expect("1 divides"), 1, frame.level));
     }
-    let mut table = Table { processors, rounds: 1, graphs };
+    let mut table = Table { form: simulator::limits::OLD_FORM, processors, rounds: 1, graphs };
     table.rounds = usual_rounds(rng, &table);
     table
 }
 
 fn graph_of_ones(rng: &mut Rng, period: u32, count: u32, level: u32) -> Graph {
-    let node = |after: Vec<u32>, rng: &mut Rng| Node { budget: 1, level: rng.between(1, level), after };
+    let node =
+        |after: Vec<u32>, rng: &mut Rng| Node { budget: 1, level: rng.between(1, level), point: 0, after };
     let nodes = shapes::lists(rng, count).into_iter().map(|after| node(after, rng)).collect();
     Graph { period, offset: 0, nodes }
 }
@@ -204,7 +205,7 @@ fn too_slow(rng: &mut Rng) -> Table {
 fn deep_backlog(rng: &mut Rng) -> Table {
     let (processors, period) = rng.pick(&[(2, 3), (2, 4), (3, 2), (3, 3), (4, 2), (5, 2)]);
     let (busy, long) = (period - 1, processors - 1);
-    let short = Node { budget: busy, level: rng.between(1, 2), after: vec![] };
+    let short = Node { budget: busy, level: rng.between(1, 2), point: 0, after: vec![] };
     let lists = shapes::lists(rng, processors);
     let nodes = lists.into_iter().map(|after| Node { after, ..short.clone() }).collect();
     let short = Graph { period, offset: 0, nodes };
@@ -213,10 +214,11 @@ fn deep_backlog(rng: &mut Rng) -> Table {
     let slow_period = late * rng.between(70, 180) / 100 / period * period;
     let budget = slow_period / period * processors / long;
     let lists = shapes::lists(rng, long);
-    let nodes = lists.into_iter().map(|after| Node { budget, level: 1, after }).collect();
+    let nodes = lists.into_iter().map(|after| Node { budget, level: 1, point: 0, after }).collect();
     let slow = Graph { period: slow_period, offset: 0, nodes };
     let graphs = if rng.once_in(2) { vec![short, slow] } else { vec![slow, short] };
-    let mut table = Table { processors, rounds: rng.between(1, 6), graphs };
+    let mut table =
+        Table { form: simulator::limits::OLD_FORM, processors, rounds: rng.between(1, 6), graphs };
     if rng.once_in(3) {
         small_offsets(rng, &mut table);
     }
@@ -229,14 +231,14 @@ fn deep_backlog(rng: &mut Rng) -> Table {
 fn many_invocations(rng: &mut Rng) -> Table {
     let count = rng.between(6, 7);
     let (period, budget) = rng.pick(&[(5, 1), (10, 2), (9, 2), (11, 2)]);
-    let node = |after| Node { budget, level: 1, after };
+    let node = |after| Node { budget, level: 1, point: 0, after };
     let chain = Graph { period, offset: 0, nodes: shapes::chain(count).into_iter().map(node).collect() };
     let slow_period = period * rng.between(40, 110);
     let left = slow_period / period * (2 * period - count * budget);
-    let node = Node { budget: left.min(slow_period), level: 1, after: vec![] };
+    let node = Node { budget: left.min(slow_period), level: 1, point: 0, after: vec![] };
     let slow = Graph { period: slow_period, offset: 0, nodes: vec![node] };
     let graphs = if rng.once_in(2) { vec![chain, slow] } else { vec![slow, chain] };
-    Table { processors: 2, rounds: rng.between(6, 20), graphs }
+    Table { form: simulator::limits::OLD_FORM, processors: 2, rounds: rng.between(6, 20), graphs }
 }
 
 /// Long chains and slow drifts, so that the state takes many rounds to repeat.

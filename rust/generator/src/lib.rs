@@ -4,6 +4,7 @@
 //! - `shapes`: predecessor lists of every shape;
 //! - `fill`: budgets that bring a table to a wanted load;
 //! - `kinds`: one maker per kind of table;
+//! - `points`: a table of the old form as one of form 2;
 //! - `limits`: tables at a limit or one past it;
 //! - `damage`: texts that are no tables any more;
 //! - `spoil`: tables that other editors spoiled;
@@ -19,6 +20,7 @@ pub mod fill;
 pub mod kinds;
 pub mod limits;
 pub mod make;
+pub mod points;
 pub mod rng;
 pub mod shapes;
 pub mod spoil;

@@ -2,7 +2,7 @@
 
 use crate::kinds::{Kind, valid};
 use crate::rng::Rng;
-use crate::{damage, limits};
+use crate::{damage, limits, points};
 
 /// A table's text and the kind it was made as.
 #[derive(Clone, Debug, PartialEq, Eq)]
@@ -18,7 +18,13 @@ pub fn make(seed: u64) -> Made {
     let text = match kind {
         Kind::NearLimits => limits::text(&mut rng),
         Kind::Damaged => damage::text(&mut rng),
-        _ => valid(&mut rng, kind).text().into_bytes(),
+        _ => {
+            let mut table = valid(&mut rng, kind);
+            if rng.once_in(2) {
+                points::give_points(&mut rng, &mut table);
+            }
+            table.text().into_bytes()
+        }
     };
     Made { kind, text }
 }

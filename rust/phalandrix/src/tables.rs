@@ -33,6 +33,9 @@ pub struct Node {
     pub budget: u32,
     /// How many server jobs may overlap.
     pub level: u32,
+    /// What is added to a release to give its priority. A table of the old form is read with the period
+    /// here, and written without it.
+    pub point: u32,
     /// Bit p - 1 is set for each predecessor p.
     pub after: u32,
 }
@@ -54,6 +57,8 @@ pub struct Graph {
 #[repr(C)]
 #[derive(Clone, Copy, Debug, Default, PartialEq, Eq, Hash)]
 pub struct Table {
+    /// The form: 1 for the old one, 2 for the one with points.
+    pub form: u32,
     /// How many processors.
     pub processors: u32,
     /// How many hyperperiods are walked at most.
@@ -112,7 +117,7 @@ impl Table {
         if number == 0 { Ok(table) } else { Err(Refusal::new(number, line, column)) }
     }
 
-    /// Its text, which is read as the same table.
+    /// Its text, which is read as the same table in every value its form has a line for.
     ///
     /// # Errors
     ///

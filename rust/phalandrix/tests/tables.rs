@@ -12,7 +12,7 @@ fn a_table_is_read_and_written() {
     let table: Table = TEXT.parse().expect("a legal table");
     assert_eq!((table.processors, table.rounds, table.graphs), (1, 2, 1));
     assert_eq!(table.graph[0], Graph { period: 4, offset: 0, nodes: 2 });
-    assert_eq!(table.node[1], Node { budget: 1, level: 1, after: 1 });
+    assert_eq!(table.node[1], Node { budget: 1, level: 1, point: 4, after: 1 });
     assert_eq!(table.node[2], Node::default());
     assert_eq!(table.graphs().map(|(_, nodes)| nodes.len()).collect::<Vec<_>>(), [2]);
     assert_eq!(table.node[1].predecessors().collect::<Vec<_>>(), [1]);
@@ -42,11 +42,12 @@ fn every_byte_of_the_buffer() {
 #[test]
 fn any_content_is_judged() {
     let full = Table {
+        form: 1,
         processors: u32::MAX,
         rounds: u32::MAX,
         graphs: u32::MAX,
         graph: [Graph { period: u32::MAX, offset: u32::MAX, nodes: u32::MAX }; 8],
-        node: [Node { budget: u32::MAX, level: u32::MAX, after: u32::MAX }; 32],
+        node: [Node { budget: u32::MAX, level: u32::MAX, point: u32::MAX, after: u32::MAX }; 32],
     };
     let mut table = full;
     let mut told = Vec::new();
@@ -72,18 +73,18 @@ fn any_content_is_judged() {
 /// Eight graphs, 32 nodes, every number as long as it can be.
 #[test]
 fn the_longest_text_fits() {
-    let mut table = Table { processors: 8, rounds: 64, graphs: 8, ..Table::default() };
+    let mut table = Table { form: 2, processors: 8, rounds: 64, graphs: 8, ..Table::default() };
     let counts = [16, 10, 1, 1, 1, 1, 1, 1];
     let mut at = 0;
     for (graph, nodes) in counts.into_iter().enumerate() {
         table.graph[graph] = Graph { period: 10_000, offset: 10_000, nodes };
         for own in 0..nodes {
-            table.node[at] = Node { budget: 10_000, level: 4, after: (1 << own) - 1 };
+            table.node[at] = Node { budget: 10_000, level: 4, point: 20_000, after: (1 << own) - 1 };
             at += 1;
         }
     }
     let written = table.written().expect("a legal table");
-    assert_eq!(written.as_str().len(), 1561);
+    assert_eq!(written.as_str().len(), 1952);
     assert_eq!(written.as_str().parse::<Table>(), Ok(table));
 }
 

@@ -25,6 +25,13 @@ pub const ALL_NODES: u32 = 32;
 pub const LEVEL: Limit = Limit { from: 1, to: 4 };
 pub const HYPERPERIOD: u32 = 20_000;
 
+/// What is added to a release to give its priority.
+pub const POINT: Limit = Limit { from: 0, to: 20_000 };
+/// The number after `form=`.
+pub const FORM: Limit = Limit { from: 2, to: 2 };
+/// The form of a table whose first line is `processors=`.
+pub const OLD_FORM: u32 = 1;
+
 /// The bytes of a limit text, and the age limit of a graph.
 pub const LIMIT_BYTES: usize = 4096;
 pub const LIMIT: Limit = Limit { from: 0, to: 2_000_000 };

@@ -11,6 +11,7 @@ use crate::table::{Graph, Table};
 pub struct MemoryNode {
     pub budget: u32,
     pub level: u32,
+    pub point: u32,
     pub after: u32,
 }
 
@@ -25,6 +26,7 @@ pub struct MemoryGraph {
 /// behind the other; what stands past the counts says nothing.
 #[derive(Clone, Copy, Debug, Default, PartialEq, Eq)]
 pub struct Memory {
+    pub form: u32,
     pub processors: u32,
     pub rounds: u32,
     pub graphs: u32,
@@ -50,6 +52,7 @@ pub fn write(memory: &Memory) -> Reply {
 
 fn memory_of(table: &Table) -> Memory {
     let mut memory = Memory {
+        form: table.form,
         processors: table.processors,
         rounds: table.rounds,
         graphs: table.graphs.len() as u32,
@@ -60,7 +63,7 @@ fn memory_of(table: &Table) -> Memory {
     }
     for (to, node) in memory.node.iter_mut().zip(table.graphs.iter().flat_map(|graph| &graph.nodes)) {
         let after = node.after.iter().map(|&number| 1 << (number - 1)).sum();
-        *to = MemoryNode { budget: node.budget, level: node.level, after };
+        *to = MemoryNode { budget: node.budget, level: node.level, point: node.point, after };
     }
     memory
 }
@@ -87,6 +90,9 @@ impl Writer {
     }
 
     fn table(&mut self, memory: &Memory) -> Result<(), Refusal> {
+        if memory.form != limits::OLD_FORM {
+            self.number("form", memory.form, limits::FORM)?;
+        }
         self.number("processors", memory.processors, limits::PROCESSORS)?;
         self.number("rounds", memory.rounds, limits::ROUNDS)?;
         self.number("graphs", memory.graphs, limits::GRAPHS)?;
@@ -98,16 +104,19 @@ impl Writer {
             if total + graph.nodes > limits::ALL_NODES {
                 return Err(self.refusal(3));
             }
-            self.nodes(&memory.node[total as usize..][..graph.nodes as usize])?;
+            self.nodes(memory.form, &memory.node[total as usize..][..graph.nodes as usize])?;
             total += graph.nodes;
         }
         Ok(())
     }
 
-    fn nodes(&mut self, nodes: &[MemoryNode]) -> Result<(), Refusal> {
+    fn nodes(&mut self, form: u32, nodes: &[MemoryNode]) -> Result<(), Refusal> {
         for (own, node) in (1..).zip(nodes) {
             self.number("budget", node.budget, limits::BUDGET)?;
             self.number("level", node.level, limits::LEVEL)?;
+            if form != limits::OLD_FORM {
+                self.number("point", node.point, limits::POINT)?;
+            }
             let after = predecessors(node);
             let text: Vec<String> = after.iter().map(u32::to_string).collect();
             self.line("after", if text.is_empty() { "none".into() } else { text.join(",") }.as_str());

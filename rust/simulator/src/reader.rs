@@ -12,16 +12,17 @@ pub fn read(bytes: &[u8]) -> Result<Table, Refusal> {
         return Err(Refusal { number: 1, line: 0, column: 0 });
     }
     let mut lines = Lines { rest: bytes, line: 0 };
+    let form = lines.form()?;
     let processors = lines.number("processors", limits::PROCESSORS)?;
     let rounds = lines.number("rounds", limits::ROUNDS)?;
     let count = lines.number("graphs", limits::GRAPHS)?;
     let mut graphs = Vec::new();
     let mut node_total = 0;
     for _ in 0..count {
-        graphs.push(read_graph(&mut lines, &mut node_total)?);
+        graphs.push(read_graph(&mut lines, form, &mut node_total)?);
     }
     lines.end()?;
-    Ok(Table { processors, rounds, graphs })
+    Ok(Table { form, processors, rounds, graphs })
 }
 
 /// The limits that these bytes spell, one `limit=` line for each of `graphs` graphs; or the first refusal
@@ -36,7 +37,7 @@ pub fn read_limits(bytes: &[u8], graphs: usize) -> Result<Vec<u32>, Refusal> {
     Ok(ages)
 }
 
-fn read_graph(lines: &mut Lines, node_total: &mut u32) -> Result<Graph, Refusal> {
+fn read_graph(lines: &mut Lines, form: u32, node_total: &mut u32) -> Result<Graph, Refusal> {
     let period = lines.number("period", limits::PERIOD)?;
     let offset = lines.number("offset", limits::OFFSET)?;
     let count = lines.number("nodes", limits::NODES)?;
@@ -48,8 +49,9 @@ fn read_graph(lines: &mut Lines, node_total: &mut u32) -> Result<Graph, Refusal>
     for number in 1..=count {
         let budget = lines.number("budget", limits::BUDGET)?;
         let level = lines.number("level", limits::LEVEL)?;
+        let point = if form == limits::OLD_FORM { period } else { lines.number("point", limits::POINT)? };
         let after = lines.after(number)?;
-        nodes.push(Node { budget, level, after });
+        nodes.push(Node { budget, level, point, after });
     }
     if !every_node_but_the_last_has_a_successor(&nodes) {
         // `lines` still stands on the graph's last line.
@@ -89,6 +91,16 @@ impl<'a> Lines<'a> {
     fn number(&mut self, key: &str, limit: Limit) -> Result<u32, Refusal> {
         let digits = self.value(key, is_number)?;
         number_within(digits, limit).ok_or(self.refusal(3, value_column(key)))
+    }
+
+    /// The form. A first line may be that of `form` or that of `processors`, so that its first byte says
+    /// which of them is meant; a byte that begins neither is at fault in either.
+    fn form(&mut self) -> Result<u32, Refusal> {
+        if self.rest.first() == Some(&b'f') {
+            self.number("form", limits::FORM)
+        } else {
+            Ok(limits::OLD_FORM)
+        }
     }
 
     /// The predecessors of node `number`: spelling first (2), then rules (4). Node 1 has `none` and no

@@ -97,7 +97,7 @@ impl<'a, Needs: FnMut(u32) -> u32> Schedule<'a, Needs> {
         ready.sort_unstable();
         ready.truncate(self.table.processors as usize);
         self.running.clear();
-        for (_deadline, graph, node, server_job) in ready {
+        for (_priority, graph, node, server_job) in ready {
             let history = &mut self.histories[graph as usize - 1][node as usize - 1];
             history.run(server_job);
             let invocation = history.server_job(server_job).linked.unwrap_or(0);
@@ -106,16 +106,17 @@ impl<'a, Needs: FnMut(u32) -> u32> Schedule<'a, Needs> {
         &self.running
     }
 
-    /// Rule 4: the ready server jobs as deadline, graph, node and number, so
-    /// that their own order is the order of rule 5.
+    /// Rule 4: the ready server jobs as release plus point, graph, node and
+    /// number, so that their own order is the order of rule 5. In the old
+    /// form release plus point is the deadline.
     fn ready(&self) -> Vec<(u32, u32, u32, u32)> {
         let mut ready = Vec::new();
         for (graph_number, (graph, histories)) in (1..).zip(self.table.graphs.iter().zip(&self.histories)) {
             for (node_number, (node, history)) in (1..).zip(graph.nodes.iter().zip(histories)) {
                 let allowed = history.pending().filter(|&number| history.level_allows(number, node.level));
-                ready.extend(
-                    allowed.map(|number| (deadline(graph, number), graph_number, node_number, number)),
-                );
+                let point = self.table.point(graph, node);
+                let priority = |number| release_instant(graph, number) + point;
+                ready.extend(allowed.map(|number| (priority(number), graph_number, node_number, number)));
             }
         }
         ready
@@ -130,9 +131,4 @@ fn releases(graph: &Graph, instant: u32) -> bool {
 /// Rule 1: the release of invocation `number` and of its server jobs.
 pub fn release_instant(graph: &Graph, number: u32) -> u32 {
     graph.offset + (number - 1) * graph.period
-}
-
-/// Rule 1: the deadline of the server jobs of that number.
-fn deadline(graph: &Graph, number: u32) -> u32 {
-    graph.offset + number * graph.period
 }

@@ -1,10 +1,13 @@
 //! A table as values, and its text.
 
-/// A node: its budget, its level, and the numbers of its predecessors.
+use crate::limits;
+
+/// A node: its budget, its level, its point, and the numbers of its predecessors.
 #[derive(Clone, Debug, PartialEq, Eq)]
 pub struct Node {
     pub budget: u32,
     pub level: u32,
+    pub point: u32,
     pub after: Vec<u32>,
 }
 
@@ -16,9 +19,11 @@ pub struct Graph {
     pub nodes: Vec<Node>,
 }
 
-/// A whole table. Graph number g stands at `graphs[g - 1]`.
+/// A whole table. Graph number g stands at `graphs[g - 1]`. Only form 2 has
+/// points; in the old form a node's point is its period, whatever `point` says.
 #[derive(Clone, Debug, PartialEq, Eq)]
 pub struct Table {
+    pub form: u32,
     pub processors: u32,
     pub rounds: u32,
     pub graphs: Vec<Graph>,
@@ -35,20 +40,34 @@ impl Table {
         self.graphs.iter().map(|g| g.nodes.len()).sum()
     }
 
-    /// The table's text in the nine keys and their fixed order.
+    /// Whether the form has points.
+    pub fn has_points(&self) -> bool {
+        self.form != limits::OLD_FORM
+    }
+
+    /// The point of a node of that graph.
+    pub fn point(&self, graph: &Graph, node: &Node) -> u32 {
+        if self.has_points() { node.point } else { graph.period }
+    }
+
+    /// The table's text in the keys of its form and their fixed order.
     pub fn text(&self) -> String {
-        let mut text =
-            format!("processors={}\nrounds={}\ngraphs={}\n", self.processors, self.rounds, self.graphs.len());
+        let mut text = if self.has_points() { format!("form={}\n", self.form) } else { String::new() };
+        text += &format!(
+            "processors={}\nrounds={}\ngraphs={}\n",
+            self.processors,
+            self.rounds,
+            self.graphs.len()
+        );
         for graph in &self.graphs {
             text +=
                 &format!("period={}\noffset={}\nnodes={}\n", graph.period, graph.offset, graph.nodes.len());
             for node in &graph.nodes {
-                text += &format!(
-                    "budget={}\nlevel={}\nafter={}\n",
-                    node.budget,
-                    node.level,
-                    after_text(&node.after)
-                );
+                text += &format!("budget={}\nlevel={}\n", node.budget, node.level);
+                if self.has_points() {
+                    text += &format!("point={}\n", node.point);
+                }
+                text += &format!("after={}\n", after_text(&node.after));
             }
         }
         text

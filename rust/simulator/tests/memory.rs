@@ -26,7 +26,8 @@ fn refused(change: impl FnOnce(&mut Memory)) -> (u32, u32) {
 fn a_legal_table_is_read_and_written_again() {
     let memory = memory();
     assert_eq!(memory.graph[0], MemoryGraph { period: 4, offset: 0, nodes: 2 });
-    assert_eq!(memory.node[1], MemoryNode { budget: 1, level: 1, after: 1 });
+    assert_eq!(memory.form, 1);
+    assert_eq!(memory.node[1], MemoryNode { budget: 1, level: 1, point: 4, after: 1 });
     assert_eq!(memory.node[2], MemoryNode::default());
     assert_eq!(write(&memory), Reply::Text(TABLE.to_vec()));
 }
@@ -35,7 +36,7 @@ fn a_legal_table_is_read_and_written_again() {
 fn what_is_past_the_counts_says_nothing() {
     let mut memory = memory();
     memory.graph[1] = MemoryGraph { period: 0, offset: u32::MAX, nodes: u32::MAX };
-    memory.node[2] = MemoryNode { budget: 0, level: 9, after: u32::MAX };
+    memory.node[2] = MemoryNode { budget: 0, level: 9, point: 0, after: u32::MAX };
     assert_eq!(write(&memory), Reply::Text(TABLE.to_vec()));
 }
 
@@ -88,7 +89,8 @@ fn the_nodes_of_all_graphs_are_counted() {
     memory.graph = [MemoryGraph { period: 4, offset: 0, nodes: 16 }; 8];
     for (at, node) in memory.node.iter_mut().enumerate() {
         let own = at % 16;
-        *node = MemoryNode { budget: 1, level: 1, after: if own == 0 { 0 } else { 1 << (own - 1) } };
+        *node =
+            MemoryNode { budget: 1, level: 1, point: 0, after: if own == 0 { 0 } else { 1 << (own - 1) } };
     }
     memory.graph[2].nodes = 1;
     let line = 3 + 2 * (3 + 3 * 16) + 3;

@@ -42,7 +42,7 @@ fn load_at_its_limit_and_past_it() {
 
 /// One node on so many processors.
 fn one(processors: u32, period: u32, budget: u32, level: u32) -> Vec<u8> {
-    let node = Node { budget, level, after: vec![] };
+    let node = Node { budget, level, point: 0, after: vec![] };
     bytes(processors, 64, vec![Graph { period, offset: 0, nodes: vec![node] }])
 }
 

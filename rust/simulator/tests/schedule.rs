@@ -45,8 +45,11 @@ fn unlinked_server_job_keeps_its_processor() {
 /// there the second waits, though a processor is idle.
 #[test]
 fn level_lets_server_jobs_overlap() {
-    let graph =
-        |budget, level| Graph { period: 2, offset: 0, nodes: vec![Node { budget, level, after: vec![] }] };
+    let graph = |budget, level| Graph {
+        period: 2,
+        offset: 0,
+        nodes: vec![Node { budget, level, point: 0, after: vec![] }],
+    };
     assert_eq!(row(&bytes(2, 64, vec![graph(3, 2)]), 2), text("run=1,1,1,1\nrun=1,1,2,2\n"));
     // Graphs 1 and 2 take both processors in tick 0, so graph 3 is late by one.
     let table = bytes(2, 64, vec![chain(4, 0, &[1]), chain(4, 0, &[1]), graph(2, 1)]);

@@ -67,7 +67,7 @@ fn chain_of_four_and_four_on_two() {
 }
 
 fn three_in_two(level: u32, rounds: u32) -> Vec<u8> {
-    let node = Node { budget: 3, level, after: vec![] };
+    let node = Node { budget: 3, level, point: 0, after: vec![] };
     bytes(2, rounds, vec![Graph { period: 2, offset: 0, nodes: vec![node] }])
 }
 

@@ -28,7 +28,7 @@ loop-holds : tie.Need-loop-holds Inv-loop μ-loop
 loop-holds c = (omega arith, omega arith, refl, limits-all (c .before .args .n) (start (now (c .before .args .s))))
 
 one-at-requires : tie.Need-one-at-requires Inv-loop μ-loop
-one-at-requires c κs = (omega arith, omega arith)
+one-at-requires c κs = (omega arith, omega arith, omega arith)
 
 enum-known-f : tie.Need-enum-known-f Inv-loop μ-loop
 enum-known-f c = search needs

@@ -5,7 +5,7 @@ use simulator::{Graph, Node, Reply, Table};
 
 /// A node of level 1.
 pub fn node(budget: u32, after: &[u32]) -> Node {
-    Node { budget, level: 1, after: after.to_vec() }
+    Node { budget, level: 1, point: 0, after: after.to_vec() }
 }
 
 /// A chain of nodes of level 1, each after the one before.
@@ -18,7 +18,7 @@ pub fn chain(period: u32, offset: u32, budgets: &[u32]) -> Graph {
 }
 
 pub fn table(processors: u32, rounds: u32, graphs: Vec<Graph>) -> Table {
-    Table { processors, rounds, graphs }
+    Table { form: simulator::limits::OLD_FORM, processors, rounds, graphs }
 }
 
 /// The table's bytes.

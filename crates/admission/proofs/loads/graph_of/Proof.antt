@@ -21,7 +21,7 @@ returns c = search needs
 returns-2 : tie.Need-returns-2
 returns-2 c =
     let a = c .before .args in
-    let many : length (a .t1 .graph) ≡ Limits.graphs .to = sym (length-map (a .t1 .graph) _) ∙ c .before .good .0 .1 .1 .1 .1 .1 .1 .0 .1 .0 .1 in
+    let many : length (a .t1 .graph) ≡ Limits.graphs .to = sym (length-map (a .t1 .graph) _) ∙ c .before .good .0 .1 .1 .1 .1 .1 .1 .1 .0 .1 .0 .1 in
     let past : length (a .t1 .graph) ≤ a .g = omega arith in
     sym (List·getD-eq-default (a .t1 .graph) noGraph past)
 

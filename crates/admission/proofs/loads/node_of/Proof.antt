@@ -27,14 +27,14 @@ returns c = search needs
 returns-2 : tie.Need-returns-2
 returns-2 c =
     let a = c .before .before .args in
-    let many : length (a .t1 .node) ≡ Limits.allNodes .to = sym (length-map (a .t1 .node) _) ∙ c .before .before .good .0 .1 .1 .1 .1 .1 .1 .1 .0 .1 .0 .1 in
+    let many : length (a .t1 .node) ≡ Limits.allNodes .to = sym (length-map (a .t1 .node) _) ∙ c .before .before .good .0 .1 .1 .1 .1 .1 .1 .1 .1 .0 .1 .0 .1 in
     let past : length (a .t1 .node) ≤ a .first + a .k = omega arith in
     sym (List·getD-eq-default (a .t1 .node) noNode past)
 
 returns-3 : tie.Need-returns-3
 returns-3 c =
     let a = c .before .args in
-    let many : length (a .t1 .node) ≡ Limits.allNodes .to = sym (length-map (a .t1 .node) _) ∙ c .before .good .0 .1 .1 .1 .1 .1 .1 .1 .0 .1 .0 .1 in
+    let many : length (a .t1 .node) ≡ Limits.allNodes .to = sym (length-map (a .t1 .node) _) ∙ c .before .good .0 .1 .1 .1 .1 .1 .1 .1 .1 .0 .1 .0 .1 in
     let past : length (a .t1 .node) ≤ a .first + a .k = omega arith in
     sym (List·getD-eq-default (a .t1 .node) noNode past)
 

@@ -18,7 +18,7 @@ returns : tie.Need-returns
 returns c =
     let a = c .before .before .before .args in
     let s = now (a .s) in
-    ap (lineReadOf s) (c .numbered .ensures) ∙ line-numbered s (a .k) 0 (a .place) (c .before .line-at .result) (omega arith) (c .before .line-at .ensures)
+    ap (lineReadOf s) (c .numbered .ensures) ∙ line-numbered s (a .k) (a .own) (a .place) (c .before .line-at .result) (omega arith) (c .before .line-at .ensures)
 
 pub one-at-spec : {M : Type 1} → statement M
 one-at-spec = tie.close (tie.spec line-at-requires numbered-requires returns)

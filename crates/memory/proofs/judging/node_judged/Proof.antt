@@ -1,78 +1,72 @@
--- `node_judged` meets its contract: the first line that does not pass decides.
+-- `node_judged` meets its contract: its first two lines, and the others.
+use mathlib.Core.Path.{sym, ap, _∙_}
+use native.Mathlib.Omega.{arith}
+use Rattle.writer.specs.Judging.{nodeAt}
+use Rattle.format.specs.Keys as Keys
+use Rattle.memory.specs.Judged.{judgementOf}
+use Rattle.memory.proofs.JudgeLaws.{number-passed}
 use borrow.Author.Needs.{needs}
-use Rattle.memory.proofs.JudgeLaws.{failed, passed, node-first, node-second, node-third, node-pass}
 use Rattle.memory.proofs.judging.node_judged.Statement.{statement}
 use Rattle.memory.proofs.judging.node_judged.Tie as tie
 
-is-within-requires : tie.Need-is-within-requires
-is-within-requires c κs = search needs
+number-judged-requires : tie.Need-number-judged-requires
+number-judged-requires c κs = search needs
 
-outside-requires : tie.Need-outside-requires
-outside-requires c κs = search needs
+enum-known-f : tie.Need-enum-known-f
+enum-known-f c = search needs
+
+enum-known-l : tie.Need-enum-known-l
+enum-known-l c = search needs
+
+number-judged-requires-2 : tie.Need-number-judged-requires-2
+number-judged-requires-2 c κs =
+    let a = c .before .before .before .before .args in
+    omega (arith, number-passed Keys.budget (a .x .budget) (a .line) _ (sym (ap judgementOf (c .before .l .given .1)) ∙ c .before .before .before .number-judged .ensures) .1)
+
+enum-known-f-2 : tie.Need-enum-known-f-2
+enum-known-f-2 c = search needs
+
+enum-known-m : tie.Need-enum-known-m
+enum-known-m c = search needs
+
+node-rest-judged-requires : tie.Need-node-rest-judged-requires
+node-rest-judged-requires c κs =
+    let a = c .before .before .before .before .before .before .before .before .args in
+    let one = number-passed Keys.budget (a .x .budget) (a .line) _ (sym (ap judgementOf (c .before .before .before .before .before .l .given .1)) ∙ c .before .before .before .before .before .before .before .number-judged .ensures) .1 in
+    let two = number-passed Keys.level (a .x .level) _ _ (sym (ap judgementOf (c .before .m .given .1)) ∙ c .before .before .before .number-judged2 .ensures) .1 in
+    (omega arith, omega arith, omega (arith, one, two))
 
 returns : tie.Need-returns
+unfolding nodeAt
 returns c =
-    let a = c .before .before .before .args in
-    node-first (a .x) (a .own) (a .line) _ (failed (c .before .before .is-within .ensures) (c .before .if1 .taken)) (c .outside .ensures)
-
-add-is-within : tie.Need-add-is-within
-add-is-within c = search needs
-
-is-within-requires-2 : tie.Need-is-within-requires-2
-is-within-requires-2 c κs = search needs
-
-add-outside : tie.Need-add-outside
-add-outside c = search needs
-
-outside-requires-2 : tie.Need-outside-requires-2
-outside-requires-2 c κs = search needs
+    let e = sym (ap judgementOf (c .before .f .given .1)) ∙ c .before .before .before .number-judged .ensures in
+    rw (← e)
 
 returns-2 : tie.Need-returns-2
+unfolding nodeAt
 returns-2 c =
-    let d = c .before .before .before in
-    let a = d .before .before .args in
-    node-second (a .x) (a .own) (a .line) _ (passed (d .before .is-within .ensures) (d .if1 .left))
-    (failed (c .before .before .is-within2 .ensures) (c .before .if2 .taken)) (c .outside2 .ensures)
-
-is-orderly-requires : tie.Need-is-orderly-requires
-is-orderly-requires c κs = search needs
-
-add-against : tie.Need-add-against
-add-against c = search needs
-
-against-requires : tie.Need-against-requires
-against-requires c κs = search needs
+    let one = sym (ap judgementOf (c .before .before .before .before .before .l .given .1)) ∙ c .before .before .before .before .before .before .before .number-judged .ensures in
+    let e = sym (ap judgementOf (c .before .f2 .given .1)) ∙ c .before .before .before .number-judged2 .ensures in
+    rw (← one, ← e)
 
 returns-3 : tie.Need-returns-3
+unfolding nodeAt
 returns-3 c =
-    let e = c .before .before .before in
-    let d = e .before .before in
-    let a = d .before .before .args in
-    node-third (a .x) (a .own) (a .line) _ (passed (d .before .is-within .ensures) (d .if1 .left))
-    (passed (e .before .is-within2 .ensures) (e .if2 .left)) (failed (c .before .before .is-orderly .ensures) (c .before .if3 .taken)) (c .against .ensures)
-
-returns-4 : tie.Need-returns-4
-returns-4 c =
-    let e = c .before .before in
-    let d = e .before .before in
-    let a = d .before .before .args in
-    node-pass (a .x) (a .own) (a .line) (passed (d .before .is-within .ensures) (d .if1 .left))
-    (passed (e .before .is-within2 .ensures) (e .if2 .left)) (passed (c .before .is-orderly .ensures) (c .if3 .left))
+    let one = sym (ap judgementOf (c .before .before .before .before .before .before .l .given .1)) ∙ c .before .before .before .before .before .before .before .before .number-judged .ensures in
+    let two = sym (ap judgementOf (c .before .before .m .given .1)) ∙ c .before .before .before .before .number-judged2 .ensures in
+    rw (← one, ← two) (c .node-rest-judged .ensures)
 
 pub node-judged-spec : {M : Type 1} → statement M
 node-judged-spec =
     tie.close
     (tie.spec
-    is-within-requires
-    outside-requires
+    number-judged-requires
+    enum-known-f
+    enum-known-l
+    number-judged-requires-2
+    enum-known-f-2
+    enum-known-m
+    node-rest-judged-requires
     returns
-    add-is-within
-    is-within-requires-2
-    add-outside
-    outside-requires-2
     returns-2
-    is-orderly-requires
-    add-against
-    against-requires
-    returns-3
-    returns-4)
+    returns-3)

@@ -2,21 +2,22 @@
 use mathlib.Core.Path.{_≡_, refl, sym, ap, _∙_}
 use Prim.Native.Nat.{suc, _+_, _-_, _*_, _≤_}
 use native.Mathlib.Omega.{arith}
+use lib.ListN.{getD}
+use Rattle.writer.specs.Judging.{nodesAt}
+use Rattle.memory.specs.Plain.{noNode, nodeIn, nodesIn}
+use Rattle.memory.specs.Judged.{judgementOf}
+use Rattle.memory.proofs.JudgeLaws.{node-passed, nodes-one, nodes-stop, nodes-none}
 use borrow.Author.Needs.{needs}
-use Rattle.writer.specs.Judging.{passes, nodesAt}
-use Rattle.memory.specs.Plain.{nodesIn}
-use Rattle.memory.specs.Judged.{judgedAs}
-use Rattle.memory.proofs.JudgeLaws.{nodes-one, nodes-stop, nodes-none}
 use Rattle.memory.proofs.judging.nodes_judged.Statement.{statement}
 use Rattle.memory.proofs.judging.nodes_judged.Tie as tie
 
 abbrev Inv-loop : tie.InvT-loop
-Inv-loop first n line nodes at₀ own₀ slot₀ at own slot =
-    (1 ≤ own) × (own ≤ n + 1) × (slot + 1 ≡ first + own) × (at + 3 ≡ line + 3 * own)
-    × (nodesAt 1 (nodesIn nodes first n) line ≡ nodesAt own (nodesIn nodes slot (suc n - own)) at)
+Inv-loop form first n line nodes at₀ own₀ slot₀ at own slot =
+    (1 ≤ own) × (own ≤ n + 1) × (slot + 1 ≡ first + own) × (at + 4 ≤ line + 4 * own)
+    × (nodesAt form 1 (nodesIn nodes first n) line ≡ nodesAt form own (nodesIn nodes slot (suc n - own)) at)
 
 abbrev μ-loop : tie.MeasureT-loop
-μ-loop first n line nodes at₀ own₀ slot₀ at own slot = suc n - own
+μ-loop form first n line nodes at₀ own₀ slot₀ at own slot = suc n - own
 
 loop-holds : tie.Need-loop-holds Inv-loop μ-loop
 loop-holds c =
@@ -39,14 +40,11 @@ returns : tie.Need-returns Inv-loop μ-loop
 returns c =
     let st = c .before .before .before .before .before .before .loop in
     let a = c .before .before .before .before .before .before .before .args in
-    sym (st .inv .4 ∙ nodes-stop (a .t1) (st .slot) (a .n) (st .own) (st .at) (omega arith) _
-    (sym (ap (judgedAs (st .at + 3)) (c .before .f .given .1)) ∙ c .before .before .before .node-judged .ensures))
+    sym (st .inv .4 ∙ nodes-stop (a .form) (a .t1) (st .slot) (a .n) (st .own) (st .at) (omega arith) _
+    (sym (ap judgementOf (c .before .f .given .1)) ∙ c .before .before .before .node-judged .ensures))
 
-enum-told : tie.Need-enum-told Inv-loop μ-loop
-enum-told c = search needs
-
-add-at : tie.Need-add-at Inv-loop μ-loop
-add-at c = omega arith
+enum-known-l : tie.Need-enum-known-l Inv-loop μ-loop
+enum-known-l c = search needs
 
 add-own : tie.Need-add-own Inv-loop μ-loop
 add-own c = omega arith
@@ -59,22 +57,22 @@ loop-less c = omega arith
 
 loop-again : tie.Need-loop-again Inv-loop μ-loop
 loop-again c =
-    let st = c .before .before .before .before .before .loop in
-    let a = c .before .before .before .before .before .before .args in (
+    let st = c .before .before .before .before .before .before .loop in
+    let a = c .before .before .before .before .before .before .before .args in
+    let e = sym (ap judgementOf (c .before .l .given .1)) ∙ c .before .before .before .node-judged .ensures in
+    let w = node-passed (a .form) (st .own) (nodeIn (getD (a .t1) (st .slot) noNode)) (st .at) _ e in (
       omega arith,
       omega arith,
       omega arith,
-      omega arith,
-      st .inv .4 ∙ nodes-one (a .t1) (st .slot) (a .n) (st .own) (st .at) (omega arith) (st .at + 3)
-          (sym (ap (judgedAs (st .at + 3)) (c .enum-told .given .1)) ∙ c .before .before .node-judged .ensures),
+      omega (arith, w .1),
+      st .inv .4 ∙ nodes-one (a .form) (a .t1) (st .slot) (a .n) (st .own) (st .at) (omega arith) _ e,
     )
 
 returns-2 : tie.Need-returns-2 Inv-loop μ-loop
 returns-2 c =
     let st = c .before .loop in
     let a = c .before .before .args in
-    let e : a .line + 3 * a .n ≡ st .at = omega arith in
-    ap passes e ∙ sym (st .inv .4 ∙ nodes-none (a .t1) (st .slot) (a .n) (st .own) (st .at) (omega arith))
+    sym (st .inv .4 ∙ nodes-none (a .form) (a .t1) (st .slot) (a .n) (st .own) (st .at) (omega arith))
 
 pub nodes-judged-spec : {M : Type 1} → statement M
 nodes-judged-spec =
@@ -88,8 +86,7 @@ nodes-judged-spec =
     node-judged-requires
     enum-known-f
     returns
-    enum-told
-    add-at
+    enum-known-l
     add-own
     add-slot
     loop-less

@@ -1,82 +1,75 @@
 -- `three_judged` meets its contract: the first number outside its limits decides.
+use mathlib.Core.Path.{sym, ap, _∙_}
+use native.Mathlib.Omega.{arith}
+use Rattle.memory.specs.Judged.{judgementOf}
+use Rattle.memory.proofs.JudgeLaws.{number-passed}
 use borrow.Author.Needs.{needs}
-use Rattle.memory.proofs.JudgeLaws.{failed, passed, three-first, three-second, three-third, three-pass}
 use Rattle.memory.proofs.judging.three_judged.Statement.{statement}
 use Rattle.memory.proofs.judging.three_judged.Tie as tie
 
-is-within-requires : tie.Need-is-within-requires
-is-within-requires c κs = search needs
+number-judged-requires : tie.Need-number-judged-requires
+number-judged-requires c κs = search needs
 
-outside-requires : tie.Need-outside-requires
-outside-requires c κs = search needs
+enum-known-f : tie.Need-enum-known-f
+enum-known-f c = search needs
+
+enum-known-l : tie.Need-enum-known-l
+enum-known-l c = search needs
+
+add-number-judged : tie.Need-add-number-judged
+add-number-judged c = search needs
+
+number-judged-requires-2 : tie.Need-number-judged-requires-2
+number-judged-requires-2 c κs =
+    let a = c .before .before .before .before .args in
+    omega (arith, number-passed (a .k) (a .first) (a .line) _ (sym (ap judgementOf (c .before .l .given .1)) ∙ c .before .before .before .number-judged .ensures) .1)
+
+enum-known-f-2 : tie.Need-enum-known-f-2
+enum-known-f-2 c = search needs
+
+enum-known-m : tie.Need-enum-known-m
+enum-known-m c = search needs
+
+add-number-judged-2 : tie.Need-add-number-judged-2
+add-number-judged-2 c = search needs
+
+number-judged-requires-3 : tie.Need-number-judged-requires-3
+number-judged-requires-3 c κs =
+    let a = c .before .before .before .before .before .before .before .before .args in
+    let one = number-passed (a .k) (a .first) (a .line) _ (sym (ap judgementOf (c .before .before .before .before .before .l .given .1)) ∙ c .before .before .before .before .before .before .before .number-judged .ensures) .1 in
+    let two = number-passed _ (a .second) _ _ (sym (ap judgementOf (c .before .m .given .1)) ∙ c .before .before .before .number-judged2 .ensures) .1 in
+    omega (arith, one, two)
 
 returns : tie.Need-returns
 returns c =
-    let a = c .before .before .before .args in
-    three-first (a .k) (a .first) (a .second) (a .third) (a .line) _ (failed (c .before .before .is-within .ensures) (c .before .if1 .taken)) (c .outside .ensures)
-
-add-is-within : tie.Need-add-is-within
-add-is-within c = search needs
-
-is-within-requires-2 : tie.Need-is-within-requires-2
-is-within-requires-2 c κs = search needs
-
-add-outside : tie.Need-add-outside
-add-outside c = search needs
-
-outside-requires-2 : tie.Need-outside-requires-2
-outside-requires-2 c κs = search needs
+    let e = sym (ap judgementOf (c .before .f .given .1)) ∙ c .before .before .before .number-judged .ensures in
+    rw (← e)
 
 returns-2 : tie.Need-returns-2
 returns-2 c =
-    let d = c .before .before .before in
-    let a = d .before .before .args in
-    three-second (a .k) (a .first) (a .second) (a .third) (a .line) _ (passed (d .before .is-within .ensures) (d .if1 .left))
-    (failed (c .before .before .is-within2 .ensures) (c .before .if2 .taken)) (c .outside2 .ensures)
-
-add-is-within-2 : tie.Need-add-is-within-2
-add-is-within-2 c = search needs
-
-is-within-requires-3 : tie.Need-is-within-requires-3
-is-within-requires-3 c κs = search needs
-
-add-outside-2 : tie.Need-add-outside-2
-add-outside-2 c = search needs
-
-outside-requires-3 : tie.Need-outside-requires-3
-outside-requires-3 c κs = search needs
+    let one = sym (ap judgementOf (c .before .before .before .before .before .l .given .1)) ∙ c .before .before .before .before .before .before .before .number-judged .ensures in
+    let e = sym (ap judgementOf (c .before .f2 .given .1)) ∙ c .before .before .before .number-judged2 .ensures in
+    rw (← one, ← e)
 
 returns-3 : tie.Need-returns-3
 returns-3 c =
-    let e = c .before .before .before in
-    let d = e .before .before in
-    let a = d .before .before .args in
-    three-third (a .k) (a .first) (a .second) (a .third) (a .line) _ (passed (d .before .is-within .ensures) (d .if1 .left))
-    (passed (e .before .is-within2 .ensures) (e .if2 .left)) (failed (c .before .before .is-within3 .ensures) (c .before .if3 .taken)) (c .outside3 .ensures)
-
-returns-4 : tie.Need-returns-4
-returns-4 c =
-    let e = c .before .before in
-    let d = e .before .before in
-    let a = d .before .before .args in
-    three-pass (a .k) (a .first) (a .second) (a .third) (a .line) (passed (d .before .is-within .ensures) (d .if1 .left))
-    (passed (e .before .is-within2 .ensures) (e .if2 .left)) (passed (c .before .is-within3 .ensures) (c .if3 .left))
+    let one = sym (ap judgementOf (c .before .before .before .before .before .before .l .given .1)) ∙ c .before .before .before .before .before .before .before .before .number-judged .ensures in
+    let two = sym (ap judgementOf (c .before .before .m .given .1)) ∙ c .before .before .before .before .number-judged2 .ensures in
+    rw (← one, ← two) (c .number-judged3 .ensures)
 
 pub three-judged-spec : {M : Type 1} → statement M
 three-judged-spec =
     tie.close
     (tie.spec
-    is-within-requires
-    outside-requires
+    number-judged-requires
+    enum-known-f
+    enum-known-l
+    add-number-judged
+    number-judged-requires-2
+    enum-known-f-2
+    enum-known-m
+    add-number-judged-2
+    number-judged-requires-3
     returns
-    add-is-within
-    is-within-requires-2
-    add-outside
-    outside-requires-2
     returns-2
-    add-is-within-2
-    is-within-requires-3
-    add-outside-2
-    outside-requires-3
-    returns-3
-    returns-4)
+    returns-3)

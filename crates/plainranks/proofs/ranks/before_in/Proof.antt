@@ -9,20 +9,20 @@ use Rattle.plainranks.proofs.ranks.before_in.Statement.{statement}
 use Rattle.plainranks.proofs.ranks.before_in.Tie as tie
 
 abbrev Inv-loop : tie.InvT-loop
-Inv-loop offset period from to deadline earlier count₀ k₀ count k =
-    (from ≤ k) × (k - from ≤ to - from) × (count ≡ beforeBy offset period from deadline earlier (k - from))
+Inv-loop offset period point from to priority earlier count₀ k₀ count k =
+    (from ≤ k) × (k - from ≤ to - from) × (count ≡ beforeBy offset period point from priority earlier (k - from))
 
 abbrev μ-loop : tie.MeasureT-loop
-μ-loop offset period from to deadline earlier count₀ k₀ count k = to - k
+μ-loop offset period point from to priority earlier count₀ k₀ count k = to - k
 
 loop-holds : tie.Need-loop-holds Inv-loop μ-loop
-loop-holds c = let a = c .args in (omega arith, omega arith, before-start (a .offset) (a .period) (a .from) (a .deadline) (a .earlier))
+loop-holds c = let a = c .args in (omega arith, omega arith, before-start (a .offset) (a .period) (a .point) (a .from) (a .priority) (a .earlier))
 
 add-k : tie.Need-add-k Inv-loop μ-loop
 add-k c = search needs
 
-instant-after-requires : tie.Need-instant-after-requires Inv-loop μ-loop
-instant-after-requires c κs = search needs
+priority-of-requires : tie.Need-priority-of-requires Inv-loop μ-loop
+priority-of-requires c κs = search needs
 
 is-before-requires : tie.Need-is-before-requires Inv-loop μ-loop
 is-before-requires c κs = search needs
@@ -40,7 +40,7 @@ loop-again c =
     let l = x .loop in (
       omega (arith, l .inv .0),
       omega (arith, l .inv .0, c .before .before .before .before .loop-test .taken),
-      before-yes (a .offset) (a .period) (a .from) (a .deadline) (a .earlier) (l .k) (l .inv .0) (c .before .before .before .instant-after .ensures) (c .before .before .is-before .ensures)
+      before-yes (a .offset) (a .period) (a .point) (a .from) (a .priority) (a .earlier) (l .k) (l .inv .0) (c .before .before .before .priority-of .ensures) (c .before .before .is-before .ensures)
           (l .inv .2) (c .before .if1 .taken) (c .further .ensures),
     )
 
@@ -54,7 +54,7 @@ loop-again-2 c =
     let l = x .loop in (
       omega (arith, l .inv .0),
       omega (arith, l .inv .0, c .before .before .before .loop-test .taken),
-      before-no (a .offset) (a .period) (a .from) (a .deadline) (a .earlier) (l .k) (l .inv .0) (c .before .before .instant-after .ensures) (c .before .is-before .ensures) (l .inv .2)
+      before-no (a .offset) (a .period) (a .point) (a .from) (a .priority) (a .earlier) (l .k) (l .inv .0) (c .before .before .priority-of .ensures) (c .before .is-before .ensures) (l .inv .2)
           (c .if1 .left),
     )
 
@@ -73,7 +73,7 @@ before-in-spec =
     μ-loop
     loop-holds
     add-k
-    instant-after-requires
+    priority-of-requires
     is-before-requires
     further-requires
     loop-less

@@ -3,7 +3,7 @@ use mathlib.Core.Path.{_≡_, refl, sym, ap, _∙_}
 use Prim.Native.Nat.{_-_, _≤_}
 use native.Mathlib.Omega.{arith}
 use lib.ListN.{getD}
-use Rattle.ledger.specs.Entries.{instantAfter}
+use Rattle.ledger.specs.Entries.{priorityAt}
 use Rattle.ledger.specs.Ranks.{rankBy}
 use Rattle.plainranks.proofs.RankLaws.{rank-start, rank-more, rank-end}
 use borrow.Author.Needs.{needs}
@@ -11,29 +11,35 @@ use Rattle.plainranks.proofs.ranks.rank.Statement.{statement}
 use Rattle.plainranks.proofs.ranks.rank.Tie as tie
 
 abbrev Inv-loop : tie.InvT-loop
-Inv-loop offsets period level complete released n i k deadline count₀ m₀ count m =
-    (m ≤ n) × (count ≡ rankBy offsets period level complete released i deadline m)
+Inv-loop offsets period point level complete released n i k priority count₀ m₀ count m =
+    (m ≤ n) × (count ≡ rankBy offsets period point level complete released i priority m)
 
 abbrev μ-loop : tie.MeasureT-loop
-μ-loop offsets period level complete released n i k deadline count₀ m₀ count m = n - m
+μ-loop offsets period point level complete released n i k priority count₀ m₀ count m = n - m
 
-mul-instant-after : tie.Need-mul-instant-after Inv-loop μ-loop
-mul-instant-after c = search needs
+mul-priority-of : tie.Need-mul-priority-of Inv-loop μ-loop
+mul-priority-of c = search needs
 
-element-copy-out-instant-after : tie.Need-element-copy-out-instant-after Inv-loop μ-loop
-element-copy-out-instant-after c = search needs
+element-copy-out-priority-of : tie.Need-element-copy-out-priority-of Inv-loop μ-loop
+element-copy-out-priority-of c = search needs
 
-mul-instant-after-2 : tie.Need-mul-instant-after-2 Inv-loop μ-loop
-mul-instant-after-2 c = search needs
+mul-priority-of-2 : tie.Need-mul-priority-of-2 Inv-loop μ-loop
+mul-priority-of-2 c = search needs
 
-element-copy-out-instant-after-2 : tie.Need-element-copy-out-instant-after-2 Inv-loop μ-loop
-element-copy-out-instant-after-2 c = search needs
+element-copy-out-priority-of-2 : tie.Need-element-copy-out-priority-of-2 Inv-loop μ-loop
+element-copy-out-priority-of-2 c = search needs
 
-instant-after-requires : tie.Need-instant-after-requires Inv-loop μ-loop
-instant-after-requires c κs = search needs
+mul-priority-of-3 : tie.Need-mul-priority-of-3 Inv-loop μ-loop
+mul-priority-of-3 c = search needs
+
+element-copy-out-priority-of-3 : tie.Need-element-copy-out-priority-of-3 Inv-loop μ-loop
+element-copy-out-priority-of-3 c = search needs
+
+priority-of-requires : tie.Need-priority-of-requires Inv-loop μ-loop
+priority-of-requires c κs = search needs
 
 loop-holds : tie.Need-loop-holds Inv-loop μ-loop
-loop-holds c = let a = c .before .before .before .args in (search needs, rank-start (a .offsets .now) (a .period .now) (a .level .now) (a .complete .now) (a .released .now) (a .i) (c .instant-after .result))
+loop-holds c = let a = c .before .before .before .before .args in (search needs, rank-start (a .offsets .now) (a .period .now) (a .point .now) (a .level .now) (a .complete .now) (a .released .now) (a .i) (c .priority-of .result))
 
 mul-ready-to : tie.Need-mul-ready-to Inv-loop μ-loop
 mul-ready-to c = search needs
@@ -71,6 +77,12 @@ mul-before-in-3 c = search needs
 element-copy-out-before-in-3 : tie.Need-element-copy-out-before-in-3 Inv-loop μ-loop
 element-copy-out-before-in-3 c = search needs
 
+mul-before-in-4 : tie.Need-mul-before-in-4 Inv-loop μ-loop
+mul-before-in-4 c = search needs
+
+element-copy-out-before-in-4 : tie.Need-element-copy-out-before-in-4 Inv-loop μ-loop
+element-copy-out-before-in-4 c = search needs
+
 before-in-requires : tie.Need-before-in-requires Inv-loop μ-loop
 before-in-requires c κs = search needs
 
@@ -85,22 +97,22 @@ loop-less c = search needs
 
 loop-again : tie.Need-loop-again Inv-loop μ-loop
 loop-again c =
-    let x = c .before .before .before .before .before .before .before .before .before .before in
+    let x = c .before .before .before .before .before .before .before .before .before .before .before in
     let s = x .before in
-    let a = s .before .before .before .args in
+    let a = s .before .before .before .before .args in
     let l = x .loop in (
-      omega (arith, c .before .before .before .before .before .before .before .before .before .loop-test .taken),
-      rank-more (a .offsets .now) (a .period .now) (a .level .now) (a .complete .now) (a .released .now) (a .i) (s .instant-after .result) (l .m) (l .inv .1)
-          (c .before .before .before .before .before .ready-to .ensures) (c .before .before-in .ensures) (c .further .ensures),
+      omega (arith, c .before .before .before .before .before .before .before .before .before .before .loop-test .taken),
+      rank-more (a .offsets .now) (a .period .now) (a .point .now) (a .level .now) (a .complete .now) (a .released .now) (a .i) (s .priority-of .result) (l .m) (l .inv .1)
+          (c .before .before .before .before .before .before .ready-to .ensures) (c .before .before-in .ensures) (c .further .ensures),
     )
 
 returns : tie.Need-returns Inv-loop μ-loop
 returns c =
     let l = c .before .loop in
     let s = c .before .before in
-    let a = s .before .before .before .args in
-    rank-end (a .offsets .now) (a .period .now) (a .level .now) (a .complete .now) (a .released .now) (a .i) (s .instant-after .result) (a .n) (l .m) (a .k) (l .inv .1) (l .inv .0)
-    (c .loop-test .left) (s .instant-after .ensures)
+    let a = s .before .before .before .before .args in
+    rank-end (a .offsets .now) (a .period .now) (a .point .now) (a .level .now) (a .complete .now) (a .released .now) (a .i) (s .priority-of .result) (a .n) (l .m) (a .k) (l .inv .1) (l .inv .0)
+    (c .loop-test .left) (s .priority-of .ensures)
 
 pub rank-spec : {M : Type 1} → statement M
 rank-spec =
@@ -108,11 +120,13 @@ rank-spec =
     (tie.spec
     Inv-loop
     μ-loop
-    mul-instant-after
-    element-copy-out-instant-after
-    mul-instant-after-2
-    element-copy-out-instant-after-2
-    instant-after-requires
+    mul-priority-of
+    element-copy-out-priority-of
+    mul-priority-of-2
+    element-copy-out-priority-of-2
+    mul-priority-of-3
+    element-copy-out-priority-of-3
+    priority-of-requires
     loop-holds
     mul-ready-to
     element-copy-out-ready-to
@@ -126,6 +140,8 @@ rank-spec =
     element-copy-out-before-in-2
     mul-before-in-3
     element-copy-out-before-in-3
+    mul-before-in-4
+    element-copy-out-before-in-4
     before-in-requires
     further-requires
     add-m

@@ -11,14 +11,14 @@ use Rattle.plainranks.proofs.row.found.Statement.{statement}
 use Rattle.plainranks.proofs.row.found.Tie as tie
 
 abbrev Inv-loop : tie.InvT-loop
-Inv-loop offsets period level complete released n r x₀ i₀ x i =
-    (i ≤ n) × (x ≡ foundTo offsets period level complete released n r i) × (x .place < places)
+Inv-loop offsets period point level complete released n r x₀ i₀ x i =
+    (i ≤ n) × (x ≡ foundTo offsets period point level complete released n r i) × (x .place < places)
 
 abbrev μ-loop : tie.MeasureT-loop
-μ-loop offsets period level complete released n r x₀ i₀ x i = n - i
+μ-loop offsets period point level complete released n r x₀ i₀ x i = n - i
 
 loop-holds : tie.Need-loop-holds Inv-loop μ-loop
-loop-holds c = let a = c .args in (search needs, place-start (a .offsets .now) (a .period .now) (a .level .now) (a .complete .now) (a .released .now) (a .n) (a .r), omega arith)
+loop-holds c = let a = c .args in (search needs, place-start (a .offsets .now) (a .period .now) (a .point .now) (a .level .now) (a .complete .now) (a .released .now) (a .n) (a .r), omega arith)
 
 found-in-requires : tie.Need-found-in-requires Inv-loop μ-loop
 found-in-requires c κs = search needs
@@ -36,7 +36,7 @@ loop-again c =
     let l = x .loop in
     let k = c .before .found-in .ensures in (
       omega (arith, c .before .before .loop-test .taken),
-      ⊎-elim (λ w. w .1 ∙ place-yes (a .offsets .now) (a .period .now) (a .level .now) (a .complete .now) (a .released .now) (a .n) (a .r) (l .i) (l .inv .1) k (w .0 .taken)) (λ w. w .1 ∙ place-no (a .offsets .now) (a .period .now) (a .level .now) (a .complete .now) (a .released .now) (a .n) (a .r) (l .i) (l .inv .1) k (w .0 .left)) (c .if1 .came),
+      ⊎-elim (λ w. w .1 ∙ place-yes (a .offsets .now) (a .period .now) (a .point .now) (a .level .now) (a .complete .now) (a .released .now) (a .n) (a .r) (l .i) (l .inv .1) k (w .0 .taken)) (λ w. w .1 ∙ place-no (a .offsets .now) (a .period .now) (a .point .now) (a .level .now) (a .complete .now) (a .released .now) (a .n) (a .r) (l .i) (l .inv .1) k (w .0 .left)) (c .if1 .came),
       ⊎-elim (λ w. rw (w .1) (omega (arith, c .before .before .loop-test .taken, x .before .pre))) (λ w. rw (w .1) (l .inv .2)) (c .if1 .came),
     )
 
@@ -45,7 +45,7 @@ returns c =
     let l = c .before .loop in
     let a = c .before .before .args in
     let e : l .i ≡ a .n = omega (arith, l .inv .0, c .loop-test .left) in
-    (l .inv .1 ∙ ap (foundTo (a .offsets .now) (a .period .now) (a .level .now) (a .complete .now) (a .released .now) (a .n) (a .r)) e, l .inv .2)
+    (l .inv .1 ∙ ap (foundTo (a .offsets .now) (a .period .now) (a .point .now) (a .level .now) (a .complete .now) (a .released .now) (a .n) (a .r)) e, l .inv .2)
 
 pub found-spec : {M : Type 1} → statement M
 found-spec =

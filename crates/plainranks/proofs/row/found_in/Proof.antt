@@ -10,13 +10,13 @@ use Rattle.plainranks.proofs.row.found_in.Statement.{statement}
 use Rattle.plainranks.proofs.row.found_in.Tie as tie
 
 abbrev Inv-loop : tie.InvT-loop
-Inv-loop offsets period level complete released n i r to number₀ k₀ number k =
+Inv-loop offsets period point level complete released n i r to number₀ k₀ number k =
     (getD complete i 0 ≤ k)
     × (k - getD complete i 0 ≤ to - getD complete i 0)
-    × (number ≡ foundBy offsets period level complete released n i r (k - getD complete i 0))
+    × (number ≡ foundBy offsets period point level complete released n i r (k - getD complete i 0))
 
 abbrev μ-loop : tie.MeasureT-loop
-μ-loop offsets period level complete released n i r to number₀ k₀ number k = to - k
+μ-loop offsets period point level complete released n i r to number₀ k₀ number k = to - k
 
 mul-ready-to : tie.Need-mul-ready-to Inv-loop μ-loop
 mul-ready-to c = search needs
@@ -45,7 +45,7 @@ element-copy-out-k c = search needs
 loop-holds : tie.Need-loop-holds Inv-loop μ-loop
 loop-holds c =
     let a = c .before .before .before .before .before .args in
-    (omega arith, omega arith, found-start (a .offsets .now) (a .period .now) (a .level .now) (a .complete .now) (a .released .now) (a .n) (a .i) (a .r))
+    (omega arith, omega arith, found-start (a .offsets .now) (a .period .now) (a .point .now) (a .level .now) (a .complete .now) (a .released .now) (a .n) (a .i) (a .r))
 
 add-k : tie.Need-add-k Inv-loop μ-loop
 add-k c = search needs
@@ -63,7 +63,7 @@ loop-again c =
     let l = x .loop in (
       omega (arith, l .inv .0),
       omega (arith, l .inv .0, c .before .before .loop-test .taken),
-      found-yes (a .offsets .now) (a .period .now) (a .level .now) (a .complete .now) (a .released .now) (a .n) (a .i) (a .r) (l .k) (l .inv .0) (c .before .rank .ensures) (c .if1 .taken),
+      found-yes (a .offsets .now) (a .period .now) (a .point .now) (a .level .now) (a .complete .now) (a .released .now) (a .n) (a .i) (a .r) (l .k) (l .inv .0) (c .before .rank .ensures) (c .if1 .taken),
     )
 
 loop-less-2 : tie.Need-loop-less-2 Inv-loop μ-loop
@@ -76,7 +76,7 @@ loop-again-2 c =
     let l = x .loop in (
       omega (arith, l .inv .0),
       omega (arith, l .inv .0, c .before .before .loop-test .taken),
-      found-no (a .offsets .now) (a .period .now) (a .level .now) (a .complete .now) (a .released .now) (a .n) (a .i) (a .r) (l .k) (l .inv .0) (c .before .rank .ensures) (c .if1 .left) (l .inv .2),
+      found-no (a .offsets .now) (a .period .now) (a .point .now) (a .level .now) (a .complete .now) (a .released .now) (a .n) (a .i) (a .r) (l .k) (l .inv .0) (c .before .rank .ensures) (c .if1 .left) (l .inv .2),
     )
 
 returns : tie.Need-returns Inv-loop μ-loop
@@ -84,7 +84,7 @@ returns c =
     let x = c .before in
     let a = x .before .before .before .before .before .before .args in
     let l = x .loop in
-    found-end (a .offsets .now) (a .period .now) (a .level .now) (a .complete .now) (a .released .now) (a .n) (a .i) (a .r) (x .before .before .ready-to .result) (l .k) (x .before .before .ready-to .ensures) (l .inv .1) (c .loop-test .left) (l .inv .0) (l .inv .2)
+    found-end (a .offsets .now) (a .period .now) (a .point .now) (a .level .now) (a .complete .now) (a .released .now) (a .n) (a .i) (a .r) (x .before .before .ready-to .result) (l .k) (x .before .before .ready-to .ensures) (l .inv .1) (c .loop-test .left) (l .inv .0) (l .inv .2)
 
 pub found-in-spec : {M : Type 1} → statement M
 found-in-spec =

@@ -29,10 +29,10 @@ loop-holds : tie.Need-loop-holds Inv-loop μ-loop
 loop-holds c = let a = c .before .before .before .args in (omega arith, rw (c .blank .ensures) (omega arith), row-start (a .t1) (a .t2) (a .t3) (c .blank .ensures))
 
 cast-found : tie.Need-cast-found Inv-loop μ-loop
-cast-found c = omega (arith, c .before .before .before .before .before .before .before .loop-test .taken, c .before .before .before .before .before .before .before .before .before .before .smaller2 .ensures)
+cast-found c = omega (arith, c .before .before .before .before .before .before .before .before .loop-test .taken, c .before .before .before .before .before .before .before .before .before .before .before .smaller2 .ensures)
 
 found-requires : tie.Need-found-requires Inv-loop μ-loop
-found-requires c κs = omega (arith, c .before .before .before .before .before .before .before .before .before .before .before .smaller .ensures)
+found-requires c κs = omega (arith, c .before .before .before .before .before .before .before .before .before .before .before .before .smaller .ensures)
 
 slot-requires : tie.Need-slot-requires Inv-loop μ-loop
 slot-requires c κs = c .before .before .found .ensures .1
@@ -53,29 +53,29 @@ run-of-requires : tie.Need-run-of-requires Inv-loop μ-loop
 run-of-requires c κs = search needs
 
 mul-line : tie.Need-mul-line Inv-loop μ-loop
-mul-line c = omega (arith, c .before .before .before .before .before .before .before .before .before .before .before .before .before .before .before .before .loop .inv .1, c .before .before .before .before .before .before .before .before .before .before .before .before .before .before .before .loop-test .taken, c .before .before .before .before .before .before .before .before .before .before .before .before .before .before .before .before .before .before .smaller2 .ensures)
+mul-line c = omega (arith, c .before .before .before .before .before .before .before .before .before .before .before .before .before .before .before .before .before .loop .inv .1, c .before .before .before .before .before .before .before .before .before .before .before .before .before .before .before .before .loop-test .taken, c .before .before .before .before .before .before .before .before .before .before .before .before .before .before .before .before .before .before .before .smaller2 .ensures)
 
 element-set-from-line : tie.Need-element-set-from-line Inv-loop μ-loop
-element-set-from-line c = omega (arith, c .before .before .before .before .before .before .before .before .before .before .before .before .before .before .before .before .loop .inv .1, c .before .before .before .before .before .before .before .before .before .before .before .before .before .before .before .loop-test .taken, c .before .before .before .before .before .before .before .before .before .before .before .before .before .before .before .before .before .before .smaller2 .ensures)
+element-set-from-line c = omega (arith, c .before .before .before .before .before .before .before .before .before .before .before .before .before .before .before .before .before .loop .inv .1, c .before .before .before .before .before .before .before .before .before .before .before .before .before .before .before .before .loop-test .taken, c .before .before .before .before .before .before .before .before .before .before .before .before .before .before .before .before .before .before .before .smaller2 .ensures)
 
 add-row : tie.Need-add-row Inv-loop μ-loop
-add-row c = omega (arith, c .before .before .before .before .before .before .before .before .before .before .before .before .before .before .before .before .loop .inv .1, c .before .before .before .before .before .before .before .before .before .before .before .before .before .before .before .loop-test .taken, c .before .before .before .before .before .before .before .before .before .before .before .before .before .before .before .before .before .before .smaller2 .ensures)
+add-row c = omega (arith, c .before .before .before .before .before .before .before .before .before .before .before .before .before .before .before .before .before .loop .inv .1, c .before .before .before .before .before .before .before .before .before .before .before .before .before .before .before .before .loop-test .taken, c .before .before .before .before .before .before .before .before .before .before .before .before .before .before .before .before .before .before .before .smaller2 .ensures)
 
 add-r : tie.Need-add-r Inv-loop μ-loop
-add-r c = omega (arith, c .before .before .before .before .before .before .before .before .before .before .loop-test .taken, c .before .before .before .before .before .before .before .before .before .before .before .before .before .smaller2 .ensures)
+add-r c = omega (arith, c .before .before .before .before .before .before .before .before .before .before .before .loop-test .taken, c .before .before .before .before .before .before .before .before .before .before .before .before .before .before .smaller2 .ensures)
 
 loop-less : tie.Need-loop-less Inv-loop μ-loop
-loop-less c = omega (arith, c .before .before .before .before .before .before .before .before .before .before .loop-test .taken)
+loop-less c = omega (arith, c .before .before .before .before .before .before .before .before .before .before .before .loop-test .taken)
 
 loop-again : tie.Need-loop-again Inv-loop μ-loop
 loop-again c =
-    let x = c .before .before .before .before .before .before .before .before .before .before .before in
+    let x = c .before .before .before .before .before .before .before .before .before .before .before .before in
     let s = x .before in
     let a = s .before .before .before .args in
     let l = x .loop in
     let nodes = s .before .before .smaller .ensures in
     let found = c .before .before .found .ensures .0 in (
-      omega (arith, c .before .before .before .before .before .before .before .before .before .before .loop-test .taken),
+      omega (arith, c .before .before .before .before .before .before .before .before .before .before .before .loop-test .taken),
       ⊎-elim (λ w. rw (w .6) (omega (arith, l .inv .1))) (λ w. rw (w .1) (omega (arith, l .inv .1))) (c .if1 .came),
       ⊎-elim (λ w. w .6 ∙ row-more (a .t1) (a .t2) (a .t3) (l .r) (l .inv .2) nodes found (w .0 .taken) (w .1 .ensures .0) (w .5 .ensures))
           (λ w. w .1 ∙ row-same (a .t1) (a .t2) (a .t3) (l .r) (l .inv .2) nodes found (w .0 .left)) (c .if1 .came),

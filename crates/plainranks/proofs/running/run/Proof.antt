@@ -22,20 +22,20 @@ loop-holds c = let a = c .before .args in (search needs, ran-start (a .t1) (a .t
 
 run-server-requires : tie.Need-run-server-requires Inv-loop μ-loop
 run-server-requires c κs =
-    let few = c .before .before .before .before .before .before .before .before .before .before .before .smaller .ensures in
-    (omega (arith, few), omega (arith, few, c .before .before .before .before .before .before .before .before .before .loop-test .taken))
+    let few = c .before .before .before .before .before .before .before .before .before .before .before .before .smaller .ensures in
+    (omega (arith, few), omega (arith, few, c .before .before .before .before .before .before .before .before .before .before .loop-test .taken))
 
 add-i : tie.Need-add-i Inv-loop μ-loop
 add-i c = search needs
 
 loop-less : tie.Need-loop-less Inv-loop μ-loop
-loop-less c = omega (arith, c .before .before .before .before .before .before .before .before .before .before .loop-test .taken)
+loop-less c = omega (arith, c .before .before .before .before .before .before .before .before .before .before .before .loop-test .taken)
 
 loop-again : tie.Need-loop-again Inv-loop μ-loop
 loop-again c =
-    let x = c .before .before .before .before .before .before .before .before .before .before .before in
+    let x = c .before .before .before .before .before .before .before .before .before .before .before .before in
     let a = x .before .before .args in
-    (omega (arith, c .before .before .before .before .before .before .before .before .before .before .loop-test .taken), ran-more (a .t1) (a .t2) (a .t3) (x .before .smaller .result) (x .loop .i) (x .loop .inv .1) (c .run-server .ensures))
+    (omega (arith, c .before .before .before .before .before .before .before .before .before .before .before .loop-test .taken), ran-more (a .t1) (a .t2) (a .t3) (x .before .smaller .result) (x .loop .i) (x .loop .inv .1) (c .run-server .ensures))
 
 returns : tie.Need-returns Inv-loop μ-loop
 returns c =

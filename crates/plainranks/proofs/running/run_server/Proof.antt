@@ -10,13 +10,13 @@ use Rattle.plainranks.proofs.running.run_server.Statement.{statement}
 use Rattle.plainranks.proofs.running.run_server.Tie as tie
 
 abbrev Inv-loop : tie.InvT-loop
-Inv-loop used₀ old offsets period level complete released n p i to k₀ used k =
+Inv-loop used₀ old offsets period point level complete released n p i to k₀ used k =
     (getD complete i 0 ≤ k)
     × (k - getD complete i 0 ≤ to - getD complete i 0)
-    × (used ≡ ranBy offsets period level complete released old n p i used₀ (k - getD complete i 0))
+    × (used ≡ ranBy offsets period point level complete released old n p i used₀ (k - getD complete i 0))
 
 abbrev μ-loop : tie.MeasureT-loop
-μ-loop used₀ old offsets period level complete released n p i to k₀ used k = to - k
+μ-loop used₀ old offsets period point level complete released n p i to k₀ used k = to - k
 
 mul-ready-to : tie.Need-mul-ready-to Inv-loop μ-loop
 mul-ready-to c = search needs
@@ -45,7 +45,7 @@ element-copy-out-k c = search needs
 loop-holds : tie.Need-loop-holds Inv-loop μ-loop
 loop-holds c =
     let a = c .before .before .before .before .before .args in
-    (omega arith, omega arith, run-start (a .offsets .now) (a .period .now) (a .level .now) (a .complete .now) (a .released .now) (a .old .now) (a .n) (a .p) (a .i) (a .used .now))
+    (omega arith, omega arith, run-start (a .offsets .now) (a .period .now) (a .point .now) (a .level .now) (a .complete .now) (a .released .now) (a .old .now) (a .n) (a .p) (a .i) (a .used .now))
 
 add-k : tie.Need-add-k Inv-loop μ-loop
 add-k c = search needs
@@ -84,7 +84,7 @@ loop-again c =
     let l = x .loop in (
       omega (arith, l .inv .0),
       omega (arith, l .inv .0, c .before .before .before .before .before .loop-test .taken),
-      run-yes (a .offsets .now) (a .period .now) (a .level .now) (a .complete .now) (a .released .now) (a .old .now) (a .n) (a .p) (a .i) (a .used .now) (l .k) (l .inv .0) (c .before .before .before .before .rank .ensures) (l .inv .2)
+      run-yes (a .offsets .now) (a .period .now) (a .point .now) (a .level .now) (a .complete .now) (a .released .now) (a .old .now) (a .n) (a .p) (a .i) (a .used .now) (l .k) (l .inv .0) (c .before .before .before .before .rank .ensures) (l .inv .2)
           (c .before .before .before .if1 .taken) (c .before .before .slot .ensures .0) (c .further .ensures),
     )
 
@@ -98,7 +98,7 @@ loop-again-2 c =
     let l = x .loop in (
       omega (arith, l .inv .0),
       omega (arith, l .inv .0, c .before .before .loop-test .taken),
-      run-no (a .offsets .now) (a .period .now) (a .level .now) (a .complete .now) (a .released .now) (a .old .now) (a .n) (a .p) (a .i) (a .used .now) (l .k) (l .inv .0) (c .before .rank .ensures) (l .inv .2) (c .if1 .left),
+      run-no (a .offsets .now) (a .period .now) (a .point .now) (a .level .now) (a .complete .now) (a .released .now) (a .old .now) (a .n) (a .p) (a .i) (a .used .now) (l .k) (l .inv .0) (c .before .rank .ensures) (l .inv .2) (c .if1 .left),
     )
 
 returns : tie.Need-returns Inv-loop μ-loop
@@ -106,7 +106,7 @@ returns c =
     let x = c .before in
     let a = x .before .before .before .before .before .before .args in
     let l = x .loop in
-    run-end (a .offsets .now) (a .period .now) (a .level .now) (a .complete .now) (a .released .now) (a .old .now) (a .n) (a .p) (a .i) (a .used .now) (x .before .before .ready-to .result) (l .k) (x .before .before .ready-to .ensures) (l .inv .1) (c .loop-test .left) (l .inv .0)
+    run-end (a .offsets .now) (a .period .now) (a .point .now) (a .level .now) (a .complete .now) (a .released .now) (a .old .now) (a .n) (a .p) (a .i) (a .used .now) (x .before .before .ready-to .result) (l .k) (x .before .before .ready-to .ensures) (l .inv .1) (c .loop-test .left) (l .inv .0)
     (l .inv .2)
 
 pub run-server-spec : {M : Type 1} → statement M

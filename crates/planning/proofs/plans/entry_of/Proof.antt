@@ -24,11 +24,26 @@ cast-step c = search needs
 mul-step : tie.Need-mul-step
 mul-step c = search needs
 
+narrow16-requires-2 : tie.Need-narrow16-requires-2
+narrow16-requires-2 c κs = search needs
+
+cast-lead : tie.Need-cast-lead
+cast-lead c = search needs
+
+mul-lead : tie.Need-mul-lead
+mul-lead c = search needs
+
+cast-lead-2 : tie.Need-cast-lead-2
+cast-lead-2 c = search needs
+
+add-lead : tie.Need-add-lead
+add-lead c = search needs
+
 cast-room : tie.Need-cast-room
 cast-room c = search needs
 
-narrow16-requires-2 : tie.Need-narrow16-requires-2
-narrow16-requires-2 c κs = search needs
+narrow16-requires-3 : tie.Need-narrow16-requires-3
+narrow16-requires-3 c κs = search needs
 
 add-at-places : tie.Need-add-at-places
 add-at-places c = search needs
@@ -45,26 +60,20 @@ at-places-requires c κs = search needs
 narrow8-requires : tie.Need-narrow8-requires
 narrow8-requires c κs = search needs
 
-cast-t15 : tie.Need-cast-t15
-cast-t15 c = search needs
-
-add-t16 : tie.Need-add-t16
-add-t16 c = search needs
-
 cast-t17 : tie.Need-cast-t17
 cast-t17 c = search needs
 
 returns : tie.Need-returns
 returns c =
     let j = c .before .before .before in
-    let r = j .before .before .before in
+    let r = j .before .before .before .before in
     let a = r .before .args in
     let y = a .y in
     let at : a .i + 1 - r .number-in .result ≡ firstFor y (a .i) = omega (arith, r .number-in .ensures) in
     let room : j .if1 .room ≡ cond (lastAt y (a .i)) Limits.unfinished most8 =
     ⊎-elim (λ w. rw (eq-eqb (numberIn y (a .i)) (y .nodes) (sym (r .number-in .ensures) ∙ w .0 .taken)) (w .1))
     (λ w. rw (ne-eqb (numberIn y (a .i)) (y .nodes) (λ e. w .0 .left (r .number-in .ensures ∙ e))) (w .1)) (j .if1 .came) in
-    rw (← room, ← r .number-in .ensures, c .before .before .narrow162 .ensures, c .before .at-places .ensures, c .narrow8 .ensures, j .before .before .narrow16 .ensures, at)
+    rw (← room, ← r .number-in .ensures, c .before .before .narrow163 .ensures, c .before .at-places .ensures, c .narrow8 .ensures, j .before .before .narrow162 .ensures, j .before .before .before .narrow16 .ensures, at)
 
 pub entry-of-spec : {M : Type 1} → statement M
 entry-of-spec =
@@ -74,14 +83,17 @@ entry-of-spec =
     narrow16-requires
     cast-step
     mul-step
-    cast-room
     narrow16-requires-2
+    cast-lead
+    mul-lead
+    cast-lead-2
+    add-lead
+    cast-room
+    narrow16-requires-3
     add-at-places
     sub-at-places
     cast-at-places
     at-places-requires
     narrow8-requires
-    cast-t15
-    add-t16
     cast-t17
     returns)

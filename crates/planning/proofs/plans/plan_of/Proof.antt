@@ -27,6 +27,7 @@ one-more : (t : Table) (p : Plan) (g i : ℕ) (e : Entry) → g ≡ graphTo t i 
       after = set (p .after) i (e .after);
       level = set (p .level) i (e .level);
       period = set (p .period) i (graphIn t g .period);
+      point = set (p .point) i (e .point);
       step = set (p .step) i (e .step);
       lead = set (p .lead) i (e .lead);
       room = set (p .room) i (e .room);
@@ -101,8 +102,14 @@ mul-p-5 c = search needs
 element-write-p-6 : tie.Need-element-write-p-6 Inv-loop μ-loop
 element-write-p-6 c = search needs
 
+mul-p-6 : tie.Need-mul-p-6 Inv-loop μ-loop
+mul-p-6 c = search needs
+
 element-write-p-7 : tie.Need-element-write-p-7 Inv-loop μ-loop
 element-write-p-7 c = search needs
+
+element-write-p-8 : tie.Need-element-write-p-8 Inv-loop μ-loop
+element-write-p-8 c = search needs
 
 add-p : tie.Need-add-p Inv-loop μ-loop
 add-p c = search needs
@@ -110,11 +117,11 @@ add-p c = search needs
 cast-p : tie.Need-cast-p Inv-loop μ-loop
 cast-p c = search needs
 
-element-write-p-8 : tie.Need-element-write-p-8 Inv-loop μ-loop
-element-write-p-8 c = search needs
-
 element-write-p-9 : tie.Need-element-write-p-9 Inv-loop μ-loop
 element-write-p-9 c = search needs
+
+element-write-p-10 : tie.Need-element-write-p-10 Inv-loop μ-loop
+element-write-p-10 c = search needs
 
 next-graph-requires : tie.Need-next-graph-requires Inv-loop μ-loop
 next-graph-requires c κs = search needs
@@ -168,11 +175,13 @@ plan-of-spec =
     element-write-p-5
     mul-p-5
     element-write-p-6
+    mul-p-6
     element-write-p-7
+    element-write-p-8
     add-p
     cast-p
-    element-write-p-8
     element-write-p-9
+    element-write-p-10
     next-graph-requires
     add-i
     loop-less

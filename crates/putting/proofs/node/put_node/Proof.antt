@@ -1,11 +1,11 @@
--- `put_node` meets its contract: the list begins where the two numbers ended.
+-- `put_node` meets its contract: the others begin where the first two lines ended.
 use mathlib.Core.Path.{sym, subst}
 use mathlib.Core.List.{List}
 use Prim.Native.Nat.{ℕ, _+_, _≤_}
 use native.Mathlib.Omega.{arith}
 use lib.ListN.{length}
 use Rattle.format.specs.Keys as Keys
-use Rattle.putting.specs.Texts.{twoLines, afterLine}
+use Rattle.putting.specs.Texts.{twoLines, restLines}
 use Rattle.putting.proofs.TextLaws.{node-parts}
 use Rattle.writing.proofs.Writing.{apart, named, begins, room, both}
 use borrow.Author.Needs.{needs}
@@ -16,30 +16,30 @@ abbrev first : tie.Start → List ℕ
 first s = twoLines Keys.budget (s .args .x .budget) (s .args .x .level)
 
 abbrev second : tie.Start → List ℕ
-second s = afterLine (s .args .x .after)
+second s = restLines (s .args .form) (s .args .x)
 
 fit : (s : tie.Start) → length (first s) + length (second s) ≤ length (s .args .part .now)
-fit s = apart (first s) (second s) (s .args .part .now) (subst (λ (l : List ℕ). length l ≤ length (s .args .part .now)) (sym (node-parts (s .args .x))) (s .pre))
+fit s = apart (first s) (second s) (s .args .part .now) (subst (λ (l : List ℕ). length l ≤ length (s .args .part .now)) (sym (node-parts (s .args .form) (s .args .x))) (s .pre))
 
 put-two-requires : tie.Need-put-two-requires
 put-two-requires c κs =
     let s = c .before .before in
     (omega arith, omega (arith, fit s))
 
-sub-put-after : tie.Need-sub-put-after
-sub-put-after c =
+sub-put-rest : tie.Need-sub-put-rest
+sub-put-rest c =
     let s = c .before .before .before .before .before in
     let p = c .before .before .put-two in
     begins (second s) (p .ensures) (fit s)
 
-part-put-after-start : tie.Need-part-put-after-start
-part-put-after-start c = sub-put-after c
+part-put-rest-start : tie.Need-part-put-rest-start
+part-put-rest-start c = sub-put-rest c
 
-part-put-after-end : tie.Need-part-put-after-end
-part-put-after-end c = search needs
+part-put-rest-end : tie.Need-part-put-rest-end
+part-put-rest-end c = search needs
 
-put-after-requires : tie.Need-put-after-requires
-put-after-requires c κs =
+put-rest-requires : tie.Need-put-rest-requires
+put-rest-requires c κs =
     let s = c .before .before .before .before .before .before in
     let p = c .before .before .before .put-two in
     room (second s) (p .ensures) (fit s)
@@ -48,7 +48,7 @@ add-result : tie.Need-add-result
 add-result c =
     let s = c .before .before .before .before .before .before .before .before .before in
     let p = c .before .before .before .before .before .before .put-two in
-    let q = c .before .before .put-after in
+    let q = c .before .before .put-rest in
     omega (arith, p .ensures .size, q .ensures .size, fit s, s .good .0 .0)
 
 same-length : tie.Need-same-length
@@ -58,17 +58,17 @@ returns : tie.Need-returns
 returns c =
     let s = c .before .before .before .before .before .before .before .before .before in
     let p = c .before .before .before .before .before .before .put-two in
-    named (node-parts (s .args .x)) (both (second s) (p .ensures) (fit s) (c .before .before .put-after .ensures))
+    named (node-parts (s .args .form) (s .args .x)) (both (second s) (p .ensures) (fit s) (c .before .before .put-rest .ensures))
 
 pub put-node-spec : {M : Type 1} → statement M
 put-node-spec =
     tie.close
     (tie.spec
     put-two-requires
-    sub-put-after
-    part-put-after-start
-    part-put-after-end
-    put-after-requires
+    sub-put-rest
+    part-put-rest-start
+    part-put-rest-end
+    put-rest-requires
     add-result
     same-length
     returns)

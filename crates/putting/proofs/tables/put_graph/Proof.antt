@@ -16,10 +16,10 @@ abbrev first : tie.Start → List ℕ
 first s = threeLines Keys.period (s .args .g .period) (s .args .g .offset) (s .args .g .nodes)
 
 abbrev second : tie.Start → List ℕ
-second s = nodesLines (s .args .nodes) (s .args .first) (s .args .g .nodes)
+second s = nodesLines (s .args .form) (s .args .nodes) (s .args .first) (s .args .g .nodes)
 
 fit : (s : tie.Start) → length (first s) + length (second s) ≤ length (s .args .part .now)
-fit s = apart (first s) (second s) (s .args .part .now) (subst (λ (l : List ℕ). length l ≤ length (s .args .part .now)) (sym (graph-parts (s .args .g) (s .args .nodes) (s .args .first))) (s .pre .1))
+fit s = apart (first s) (second s) (s .args .part .now) (subst (λ (l : List ℕ). length l ≤ length (s .args .part .now)) (sym (graph-parts (s .args .form) (s .args .g) (s .args .nodes) (s .args .first))) (s .pre .1))
 
 put-three-requires : tie.Need-put-three-requires
 put-three-requires c κs =
@@ -58,7 +58,7 @@ returns : tie.Need-returns
 returns c =
     let s = c .before .before .before .before .before .before .before .before .before in
     let p = c .before .before .before .before .before .before .put-three in
-    named (graph-parts (s .args .g) (s .args .nodes) (s .args .first)) (both (second s) (p .ensures) (fit s) (c .before .before .put-nodes .ensures))
+    named (graph-parts (s .args .form) (s .args .g) (s .args .nodes) (s .args .first)) (both (second s) (p .ensures) (fit s) (c .before .before .put-nodes .ensures))
 
 pub put-graph-spec : {M : Type 1} → statement M
 put-graph-spec =

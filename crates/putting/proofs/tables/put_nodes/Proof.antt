@@ -12,11 +12,11 @@ use Rattle.putting.proofs.tables.put_nodes.Statement.{statement}
 use Rattle.putting.proofs.tables.put_nodes.Tie as tie
 
 abbrev Inv-loop : tie.InvT-loop
-Inv-loop part₀ first n nodes at₀ slot₀ left₀ part at slot left =
-    (slot + left ≡ first + n) × (length part ≡ length part₀) × Halfway (nodesLines nodes first n) part₀ part at (nodesLines nodes slot left)
+Inv-loop part₀ first n form nodes at₀ slot₀ left₀ part at slot left =
+    (slot + left ≡ first + n) × (length part ≡ length part₀) × Halfway (nodesLines form nodes first n) part₀ part at (nodesLines form nodes slot left)
 
 abbrev μ-loop : tie.MeasureT-loop
-μ-loop part₀ first n nodes at₀ slot₀ left₀ part at slot left = left
+μ-loop part₀ first n form nodes at₀ slot₀ left₀ part at slot left = left
 
 loop-holds : tie.Need-loop-holds Inv-loop μ-loop
 loop-holds c = (omega arith, refl, from-start _ _)
@@ -32,9 +32,9 @@ sub-put-node c =
     let s = c .before .before .before .before in
     let l = c .before .before .loop in
     let x = getD (s .args .t2) (l .slot) noNode in
-    let rest = nodesLines (s .args .t2) (l .slot + 1) (l .left - 1) in
-    let e = node-step (s .args .t2) (l .slot) (l .left) (omega arith) in
-    starts (l .inv .2) (nodeLines x) rest e (s .pre .1)
+    let rest = nodesLines (s .args .form) (s .args .t2) (l .slot + 1) (l .left - 1) in
+    let e = node-step (s .args .form) (s .args .t2) (l .slot) (l .left) (omega arith) in
+    starts (l .inv .2) (nodeLines (s .args .form) x) rest e (s .pre .1)
 
 part-put-node-start : tie.Need-part-put-node-start Inv-loop μ-loop
 part-put-node-start c = sub-put-node c
@@ -47,18 +47,18 @@ put-node-requires c κs =
     let s = c .before .before .before .before .before in
     let l = c .before .before .before .loop in
     let x = getD (s .args .t2) (l .slot) noNode in
-    let rest = nodesLines (s .args .t2) (l .slot + 1) (l .left - 1) in
-    let e = node-step (s .args .t2) (l .slot) (l .left) (omega arith) in
-    has-room (l .inv .2) (nodeLines x) rest e (s .pre .1)
+    let rest = nodesLines (s .args .form) (s .args .t2) (l .slot + 1) (l .left - 1) in
+    let e = node-step (s .args .form) (s .args .t2) (l .slot) (l .left) (omega arith) in
+    has-room (l .inv .2) (nodeLines (s .args .form) x) rest e (s .pre .1)
 
 add-at : tie.Need-add-at Inv-loop μ-loop
 add-at c =
     let s = c .before .before .before .before .before .before .before .before in
     let l = c .before .before .before .before .before .before .loop in
     let x = getD (s .args .t2) (l .slot) noNode in
-    let rest = nodesLines (s .args .t2) (l .slot + 1) (l .left - 1) in
-    let e = node-step (s .args .t2) (l .slot) (l .left) (omega arith) in
-    omega (arith, ends (l .inv .2) (nodeLines x) rest e (s .pre .1) (c .before .before .put-node .ensures), s .good .0 .0)
+    let rest = nodesLines (s .args .form) (s .args .t2) (l .slot + 1) (l .left - 1) in
+    let e = node-step (s .args .form) (s .args .t2) (l .slot) (l .left) (omega arith) in
+    omega (arith, ends (l .inv .2) (nodeLines (s .args .form) x) rest e (s .pre .1) (c .before .before .put-node .ensures), s .good .0 .0)
 
 add-slot : tie.Need-add-slot Inv-loop μ-loop
 add-slot c = omega arith
@@ -74,10 +74,10 @@ loop-again c =
     let s = c .before .before .before .before .before .before .before .before in
     let l = c .before .before .before .before .before .before .loop in
     let x = getD (s .args .t2) (l .slot) noNode in
-    let rest = nodesLines (s .args .t2) (l .slot + 1) (l .left - 1) in
-    let e = node-step (s .args .t2) (l .slot) (l .left) (omega arith) in
+    let rest = nodesLines (s .args .form) (s .args .t2) (l .slot + 1) (l .left - 1) in
+    let e = node-step (s .args .form) (s .args .t2) (l .slot) (l .left) (omega arith) in
     let w = c .before .before .put-node .ensures in
-    (omega arith, stays-long (l .inv .2) (nodeLines x) rest e (s .pre .1) w, goes-on (l .inv .2) (nodeLines x) rest e (s .pre .1) w)
+    (omega arith, stays-long (l .inv .2) (nodeLines (s .args .form) x) rest e (s .pre .1) w, goes-on (l .inv .2) (nodeLines (s .args .form) x) rest e (s .pre .1) w)
 
 same-length : tie.Need-same-length Inv-loop μ-loop
 same-length c = c .before .loop .inv .1
@@ -87,7 +87,7 @@ returns c =
     let s = c .before .before .before in
     let l = c .before .loop in
     let none : l .left ≡ 0 = omega arith in
-    at-end (subst (λ (k : ℕ). Halfway (nodesLines (s .args .t2) (s .args .first) (s .args .n)) (s .args .part .now) (l .part) (l .at) (nodesLines (s .args .t2) (l .slot) k)) none (l .inv .2)) (no-node (s .args .t2) (l .slot))
+    at-end (subst (λ (k : ℕ). Halfway (nodesLines (s .args .form) (s .args .t2) (s .args .first) (s .args .n)) (s .args .part .now) (l .part) (l .at) (nodesLines (s .args .form) (s .args .t2) (l .slot) k)) none (l .inv .2)) (no-node (s .args .form) (s .args .t2) (l .slot))
 
 pub put-nodes-spec : {M : Type 1} → statement M
 put-nodes-spec =

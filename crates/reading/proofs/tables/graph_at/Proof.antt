@@ -11,7 +11,7 @@ use Rattle.format.specs.Keys.{keys}
 use Rattle.schedule.specs.Limits as Limits
 use Rattle.lines.specs.Numbered.{placeOf, threeReadOf}
 use Rattle.reading.proofs.Graphs.{graph-three}
-use Rattle.lines.proofs.NumberedLaws.{three-holds}
+use Rattle.lines.proofs.NumberedLaws.{three-holds, three-first}
 use Rattle.reading.proofs.tables.graph_at.Statement.{statement}
 use Rattle.reading.proofs.tables.graph_at.Tie as tie
 
@@ -33,7 +33,8 @@ graph-nodes-requires c κs =
     let known = c .before .head .given in
     let w = told _ (sym (sym (ap (threeReadOf s) (known .1)) ∙ c .before .before .before .three-at .ensures)) (three-holds Keys.period 0 P refl) in
     let l = within-limits Limits.nodes (known .0 .0 .third) (w .0) in
-    (omega arith, omega arith, l .0, l .1, omega (arith, w .1), omega (arith, w .1, l .1), omega arith)
+    let f = told _ (sym (sym (ap (threeReadOf s) (known .1)) ∙ c .before .before .before .three-at .ensures)) (three-first Keys.period 0 P refl) in
+    (omega arith, omega arith, l .0, l .1, omega (arith, w .1), omega (arith, w .1, l .1), omega arith, f)
 
 returns : tie.Need-returns
 returns c =
@@ -41,7 +42,7 @@ returns c =
     let s = now (a .s) in
     let P = placeOf s (a .place) in
     let e = sym (ap (threeReadOf s) (c .before .f .given .1)) ∙ c .before .before .before .three-at .ensures in
-    rw (graph-three (a .t .nodes) P, ← e)
+    rw (graph-three (a .t .form) (a .t .nodes) P, ← e)
 
 returns-2 : tie.Need-returns-2
 returns-2 c =
@@ -49,7 +50,7 @@ returns-2 c =
     let s = now (a .s) in
     let P = placeOf s (a .place) in
     let e = sym (ap (threeReadOf s) (c .before .before .head .given .1)) ∙ c .before .before .before .before .three-at .ensures in
-    rw (graph-three (a .t .nodes) P, ← e) (c .graph-nodes .ensures)
+    rw (graph-three (a .t .form) (a .t .nodes) P, ← e) (c .graph-nodes .ensures)
 
 pub graph-at-spec : {M : Type 1} → statement M
 graph-at-spec =

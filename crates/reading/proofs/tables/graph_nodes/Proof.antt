@@ -36,10 +36,10 @@ returns c =
     let t = a .t in
     let h = a .head in
     ap (λ (k : ℕ). refused (OutsideLimits (a .place .line - 1) k)) (c .value-column .ensures)
-    ∙ sym (ap (mapOutcome (withGraph t)) (nodes-over (t .nodes) (h .first) (h .second) (h .third) (a .place .line - 1) P (omega arith)))
+    ∙ sym (ap (mapOutcome (withGraph t)) (nodes-over (t .form) (t .nodes) (h .first) (h .second) (h .third) (a .place .line - 1) P (omega arith)))
 
 nodes-at-requires : tie.Need-nodes-at-requires
-nodes-at-requires c κs = (omega arith, omega arith, omega arith, omega arith)
+nodes-at-requires c κs = (omega arith, omega arith, omega arith, omega arith, search needs)
 
 enum-known-end : tie.Need-enum-known-end
 enum-known-end c = search needs
@@ -57,10 +57,10 @@ graph-ended-requires c κs =
     let got = c .before .before .before .before .nodes-at .result in
     let taking : Taken = record { nodes = got .nodes; named = got .named } in
     let Q = placeOf s (c .before .end2 .given .0 .0) in
-    let (xs, e, f) = image-done (taken (t .node) (t .nodes) 0) (nodesFrom 1 (h .third) P) taking Q (sym (ap (endOf s taking) (c .before .end2 .given .1))
+    let (xs, e, f) = image-done (taken (t .node) (t .nodes) 0) (nodesFrom (t .form) (h .first) 1 (h .third) P) taking Q (sym (ap (endOf s taking) (c .before .end2 .given .1))
     ∙ c .before .before .before .before .nodes-at .ensures) in
-    let w = told _ e (nodes-holds 1 (h .third) P) in
-    (omega arith, omega arith, omega arith, omega arith, omega (arith, w .2))
+    let w = told _ e (nodes-holds (t .form) (h .first) 1 (h .third) P (c .before .before .before .before .before .before .before .before .pre .7)) in
+    (omega arith, omega arith, omega arith, omega arith, omega (arith, w .2 .0))
 
 returns-2 : tie.Need-returns-2
 returns-2 c =
@@ -72,8 +72,8 @@ returns-2 c =
     let got = c .before .before .before .before .nodes-at .result in
     let taking : Taken = record { nodes = got .nodes; named = got .named } in
     sym (ap (mapOutcome (withGraph t))
-    (nodes-refused (t .nodes) (h .first) (h .second) (h .third) (a .place .line - 1) P (omega arith) _
-    (image-refused (taken (t .node) (t .nodes) 0) (nodesFrom 1 (h .third) P) _ (sym (ap (endOf s taking) (c .before .end .given .1))
+    (nodes-refused (t .form) (t .nodes) (h .first) (h .second) (h .third) (a .place .line - 1) P (omega arith) _
+    (image-refused (taken (t .node) (t .nodes) 0) (nodesFrom (t .form) (h .first) 1 (h .third) P) _ (sym (ap (endOf s taking) (c .before .end .given .1))
     ∙ c .before .before .before .before .nodes-at .ensures))))
 
 returns-3 : tie.Need-returns-3
@@ -87,11 +87,11 @@ returns-3 c =
     let taking : Taken = record { nodes = got .nodes; named = got .named } in
     let q = c .before .before .end2 .given .0 .0 in
     let Q = placeOf s q in
-    let (xs, e, f) = image-done (taken (t .node) (t .nodes) 0) (nodesFrom 1 (h .third) P) taking Q (sym (ap (endOf s taking) (c .before .before .end2 .given .1))
+    let (xs, e, f) = image-done (taken (t .node) (t .nodes) 0) (nodesFrom (t .form) (h .first) 1 (h .third) P) taking Q (sym (ap (endOf s taking) (c .before .before .end2 .given .1))
     ∙ c .before .before .before .before .before .nodes-at .ensures) in
-    let w = told _ e (nodes-holds 1 (h .third) P) in
+    let w = told _ e (nodes-holds (t .form) (h .first) 1 (h .third) P (c .before .before .before .before .before .before .before .before .before .pre .7)) in
     ap (tableReadOf s) (c .graph-ended .ensures) ∙ ended-graph t h xs taking (w .1) f (omega arith) (w .0) s q
-    ∙ sym (ap (mapOutcome (withGraph t)) (nodes-done (t .nodes) (h .first) (h .second) (h .third) (a .place .line - 1) P (omega arith) xs Q e))
+    ∙ sym (ap (mapOutcome (withGraph t)) (nodes-done (t .form) (t .nodes) (h .first) (h .second) (h .third) (a .place .line - 1) P (omega arith) xs Q e))
 
 pub graph-nodes-spec : {M : Type 1} → statement M
 graph-nodes-spec =

@@ -20,8 +20,8 @@ use Rattle.reading.proofs.tables.graphs_at.Statement.{statement}
 use Rattle.reading.proofs.tables.graphs_at.Tie as tie
 
 abbrev Inv-loop : tie.InvT-loop
-Inv-loop s n u₀ p₀ g₀ u p g = (g ≤ n) × (u .graphs ≡ u₀ .graphs + g) × (u .nodes ≤ Limits.allNodes .to) × (p .line ≤ p₀ .line + g * (3 + 3 * Limits.nodes .to))
-    × (mapOutcome (withGraphs u₀) (graphsFrom (u₀ .nodes) n (placeOf s p₀)) ≡ mapOutcome (withGraphs u) (graphsFrom (u .nodes) (n - g) (placeOf s p)))
+Inv-loop s n u₀ p₀ g₀ u p g = (g ≤ n) × (u .graphs ≡ u₀ .graphs + g) × (u .nodes ≤ Limits.allNodes .to) × (p .line ≤ p₀ .line + g * (3 + 4 * Limits.nodes .to))
+    × (mapOutcome (withGraphs u₀) (graphsFrom (u₀ .form) (u₀ .nodes) n (placeOf s p₀)) ≡ mapOutcome (withGraphs u) (graphsFrom (u .form) (u .nodes) (n - g) (placeOf s p)))
 
 abbrev μ-loop : tie.MeasureT-loop
 μ-loop s n u₀ p₀ g₀ u p g = n - g
@@ -46,7 +46,7 @@ returns c =
     let P = placeOf s (st .p) in
     let got = c .before .before .before .graph-at .result in
     sym (st .inv .4 ∙ graphs-refused u (a .n) (st .g) P (omega arith) _
-    (image-refused (withGraph u) (graph (u .nodes) P) _ (sym (ap (endOf s (got .table)) (c .before .end .given .1)) ∙ c .before .before .before .graph-at .ensures)))
+    (image-refused (withGraph u) (graph (u .form) (u .nodes) P) _ (sym (ap (endOf s (got .table)) (c .before .end .given .1)) ∙ c .before .before .before .graph-at .ensures)))
 
 enum-known-end-2 : tie.Need-enum-known-end-2 Inv-loop μ-loop
 enum-known-end-2 c = search needs
@@ -66,18 +66,18 @@ loop-again c =
     let P = placeOf s (st .p) in
     let got = c .before .before .before .before .graph-at .result in
     let Q = placeOf s (c .before .before .end2 .given .0 .0) in
-    let (G, e, f) = image-done (withGraph u) (graph (u .nodes) P) (got .table) Q (sym (ap (endOf s (got .table)) (c .before .before .end2 .given .1))
+    let (G, e, f) = image-done (withGraph u) (graph (u .form) (u .nodes) P) (got .table) Q (sym (ap (endOf s (got .table)) (c .before .before .end2 .given .1))
     ∙ c .before .before .before .before .graph-at .ensures) in
-    let w = told _ e (graph-holds (u .nodes) P) in
+    let w = told _ e (graph-holds (u .form) (u .nodes) P) in
     let few = within-limits Limits.nodes (length (G .nodes)) (graph-formed G (w .0) .few) .1 in
     let k = ap (λ (m : Memory). m .graphs) f in
     let n = ap (λ (m : Memory). m .nodes) f in (
       omega arith,
       omega arith,
       omega (arith, w .1),
-      omega (arith, w .2),
+      omega (arith, w .2 .1),
       st .inv .4 ∙ graphs-one u (a .n) (st .g) P (omega arith) G Q e
-          ∙ ap (λ (m : Memory). mapOutcome (withGraphs m) (graphsFrom (m .nodes) (a .n - (st .g + 1)) Q)) (sym f),
+          ∙ ap (λ (m : Memory). mapOutcome (withGraphs m) (graphsFrom (m .form) (m .nodes) (a .n - (st .g + 1)) Q)) (sym f),
     )
 
 returns-2 : tie.Need-returns-2 Inv-loop μ-loop

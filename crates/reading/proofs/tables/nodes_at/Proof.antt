@@ -19,11 +19,11 @@ use Rattle.reading.proofs.tables.nodes_at.Statement.{statement}
 use Rattle.reading.proofs.tables.nodes_at.Tie as tie
 
 abbrev Inv-loop : tie.InvT-loop
-Inv-loop s first n list₀ named₀ p₀ own₀ slot₀ list named p own slot = (1 ≤ own) × (own ≤ n + 1) × (slot + 1 ≡ first + own) × (p .line + 3 ≡ p₀ .line + 3 * own)
-    × (mapOutcome (taken list₀ first 0) (nodesFrom 1 n (placeOf s p₀)) ≡ mapOutcome (taken list slot named) (nodesFrom own (suc n - own) (placeOf s p)))
+Inv-loop s form period first n list₀ named₀ p₀ own₀ slot₀ list named p own slot = (1 ≤ own) × (own ≤ n + 1) × (slot + 1 ≡ first + own) × (p .line + 4 ≤ p₀ .line + 4 * own)
+    × (mapOutcome (taken list₀ first 0) (nodesFrom form period 1 n (placeOf s p₀)) ≡ mapOutcome (taken list slot named) (nodesFrom form period own (suc n - own) (placeOf s p)))
 
 abbrev μ-loop : tie.MeasureT-loop
-μ-loop s first n list₀ named₀ p₀ own₀ slot₀ list named p own slot = suc n - own
+μ-loop s form period first n list₀ named₀ p₀ own₀ slot₀ list named p own slot = suc n - own
 
 loop-holds : tie.Need-loop-holds Inv-loop μ-loop
 loop-holds c =
@@ -42,8 +42,8 @@ returns c =
     let a = c .before .before .before .before .before .before .before .args in
     let s = now (a .s) in
     let P = placeOf s (st .p) in
-    sym (st .inv .4 ∙ nodes-stop (st .list) (st .slot) (st .named) (a .n) (st .own) P (omega arith) _
-    (image-refused codedNode (node (st .own) P) _ (sym (ap (nodeReadOf s) (c .before .f .given .1)) ∙ c .before .before .before .node-at .ensures)))
+    sym (st .inv .4 ∙ nodes-stop (a .form) (a .period) (st .list) (st .slot) (st .named) (a .n) (st .own) P (omega arith) _
+    (image-refused codedNode (node (a .form) (a .period) (st .own) P) _ (sym (ap (nodeReadOf s) (c .before .f .given .1)) ∙ c .before .before .before .node-at .ensures)))
 
 enum-known-x : tie.Need-enum-known-x Inv-loop μ-loop
 enum-known-x c = search needs
@@ -71,14 +71,14 @@ loop-again c =
     let P = placeOf s (st .p) in
     let known = c .before .before .x .given in
     let Q = placeOf s (known .0 .1 .0) in
-    let (w, e, f) = image-done codedNode (node (st .own) P) (known .0 .0) Q (sym (ap (nodeReadOf s) (known .1)) ∙ c .before .before .before .before .node-at .ensures) in
-    let l = told _ e (node-holds (st .own) P) .1 in (
+    let (w, e, f) = image-done codedNode (node (a .form) (a .period) (st .own) P) (known .0 .0) Q (sym (ap (nodeReadOf s) (known .1)) ∙ c .before .before .before .before .node-at .ensures) in
+    let l = told _ e (node-holds (a .form) (a .period) (st .own) P (c .before .before .before .before .before .before .before .before .pre .4)) .1 in (
       omega arith,
       omega arith,
       omega arith,
-      omega arith,
-      st .inv .4 ∙ nodes-one (st .list) (st .slot) (st .named) (a .n) (st .own) P (omega arith) w Q e
-          ∙ ap (λ (z : Row). mapOutcome (taken (set (st .list) (st .slot) z) (st .slot + 1) (bitOr (st .named) (z .after))) (nodesFrom (st .own + 1) (suc (a .n) - (st .own + 1)) Q)) (sym f),
+      omega (arith, l .1),
+      st .inv .4 ∙ nodes-one (a .form) (a .period) (st .list) (st .slot) (st .named) (a .n) (st .own) P (omega arith) w Q e
+          ∙ ap (λ (z : Row). mapOutcome (taken (set (st .list) (st .slot) z) (st .slot + 1) (bitOr (st .named) (z .after))) (nodesFrom (a .form) (a .period) (st .own + 1) (suc (a .n) - (st .own + 1)) Q)) (sym f),
     )
 
 returns-2 : tie.Need-returns-2 Inv-loop μ-loop
@@ -87,7 +87,7 @@ returns-2 c =
     let a = c .before .before .before .args in
     let s = now (a .s) in
     let P = placeOf s (st .p) in
-    sym (st .inv .4 ∙ nodes-none (st .list) (st .slot) (st .named) (a .n) (st .own) P (omega arith))
+    sym (st .inv .4 ∙ nodes-none (a .form) (a .period) (st .list) (st .slot) (st .named) (a .n) (st .own) P (omega arith))
 
 pub nodes-at-spec : {M : Type 1} → statement M
 nodes-at-spec =

@@ -6,17 +6,11 @@ use lib.ListN.{length}
 use denote.Ref.{now}
 use borrow.Author.Needs.{needs}
 use borrow.Author.Tests.{le-leb, lt-leb}
-use Rattle.theorems.proofs.Formed.{within-limits}
 use Rattle.rules.proofs.Outcomes.{told}
-use Rattle.format.specs.Keys as Keys
-use Rattle.format.specs.Keys.{keys}
+use Rattle.rules.proofs.ReadWellFormed.{form-line-holds}
 use Rattle.schedule.specs.Limits as Limits
-use Rattle.format.specs.Reading.{Place, Outcome, _and-then_, graphsFrom, ended, readOf}
-use Rattle.table.specs.declared.Table.{Table as Memory}
-use Rattle.reading.specs.Memory.{withGraphs}
-use Rattle.lines.specs.Numbered.{mapOutcome, placeOf, threeReadOf}
-use Rattle.reading.proofs.Graphs.{table-three, ended-map}
-use Rattle.lines.proofs.NumberedLaws.{three-holds}
+use Rattle.format.specs.Reading.{Place, table, readOf}
+use Rattle.lines.specs.Numbered.{placeOf, lineReadOf}
 use Rattle.reading.proofs.tables.table_read.Statement.{statement}
 use Rattle.reading.proofs.tables.table_read.Tie as tie
 
@@ -30,11 +24,10 @@ returns : tie.Need-returns
 unfolding readOf
 returns c =
     let s = now (c .before .before .before .args .s) in
-    let P : Place = record { line = 1; bytes = s } in
     rw (lt-leb (length s) (Limits.tableBytes .to) (omega arith))
 
-three-at-requires : tie.Need-three-at-requires
-three-at-requires c κs = search needs
+form-at-requires : tie.Need-form-at-requires
+form-at-requires c κs = search needs
 
 enum-known-f : tie.Need-enum-known-f
 enum-known-f c = search needs
@@ -42,49 +35,31 @@ enum-known-f c = search needs
 empty-requires-2 : tie.Need-empty-requires-2
 empty-requires-2 c κs = search needs
 
-enum-known-head : tie.Need-enum-known-head
-enum-known-head c = search needs
+enum-known-form : tie.Need-enum-known-form
+enum-known-form c = search needs
 
-empty-requires-3 : tie.Need-empty-requires-3
-empty-requires-3 c κs = search needs
-
-graphs-at-requires : tie.Need-graphs-at-requires
-unfolding keys
-graphs-at-requires c κs =
-    let s = now (c .before .before .before .before .before .before .before .args .s) in
+form-table-requires : tie.Need-form-table-requires
+form-table-requires c κs =
+    let s = now (c .before .before .before .before .before .before .args .s) in
     let P : Place = record { line = 1; bytes = s } in
-    let known = c .before .before .head .given in
-    let w = told _ (sym (sym (ap (threeReadOf s) (known .1)) ∙ c .before .before .before .before .three-at .ensures)) (three-holds Keys.processors 0 P refl) in
-    let l = within-limits Limits.graphs (known .0 .0 .third) (w .0) in
-    let g = ap (λ (m : Memory). m .graphs) (c .empty3 .ensures) in
-    let n = ap (λ (m : Memory). m .nodes) (c .empty3 .ensures) in
-    (omega (arith, l .1), omega arith, omega (arith, l .1, w .1), omega arith)
-
-ended-at-requires : tie.Need-ended-at-requires
-ended-at-requires c κs = search needs
+    let w = told _ (sym (sym (ap (lineReadOf s) (c .before .form .given .1)) ∙ c .before .before .before .form-at .ensures)) (form-line-holds P) in
+    (omega (arith, w .1 .1), omega arith)
 
 returns-2 : tie.Need-returns-2
-unfolding readOf
+unfolding readOf table
 returns-2 c =
     let s = now (c .before .before .before .before .before .before .before .args .s) in
     let P : Place = record { line = 1; bytes = s } in
-    let e = sym (ap (threeReadOf s) (c .before .before .f .given .1)) ∙ c .before .before .before .before .three-at .ensures in
-    rw (le-leb (length s) (Limits.tableBytes .to) (omega arith), table-three P, ← e)
+    let e = sym (ap (lineReadOf s) (c .before .before .f .given .1)) ∙ c .before .before .before .before .form-at .ensures in
+    rw (le-leb (length s) (Limits.tableBytes .to) (omega arith), ← e)
 
 returns-3 : tie.Need-returns-3
-unfolding readOf
+unfolding readOf table
 returns-3 c =
-    let s = now (c .before .before .before .before .before .before .before .before .before .args .s) in
+    let s = now (c .before .before .before .before .before .before .before .args .s) in
     let P : Place = record { line = 1; bytes = s } in
-    let known = c .before .before .before .before .head .given in
-    let h = known .0 .0 in
-    let Q = placeOf s (known .0 .1 .0) in
-    let e = sym (ap (threeReadOf s) (known .1)) ∙ c .before .before .before .before .before .before .three-at .ensures in
-    rw (le-leb (length s) (Limits.tableBytes .to) (omega arith), table-three P, ← e)
-    (c .ended-at .ensures
-    ∙ ap (λ (x : Outcome Memory). x and-then (λ m p. ended m p (p .bytes)))
-    (c .before .graphs-at .ensures ∙ ap (λ (m : Memory). mapOutcome (withGraphs m) (graphsFrom (m .nodes) (h .third) Q)) (c .before .before .empty3 .ensures))
-    ∙ sym (ended-map (h .first) (h .second) (graphsFrom 0 (h .third) Q)))
+    let e = sym (ap (lineReadOf s) (c .before .before .form .given .1)) ∙ c .before .before .before .before .form-at .ensures in
+    rw (le-leb (length s) (Limits.tableBytes .to) (omega arith), ← e) (c .form-table .ensures)
 
 pub table-read-spec : {M : Type 1} → statement M
 table-read-spec =
@@ -93,12 +68,10 @@ table-read-spec =
     cast-if1
     empty-requires
     returns
-    three-at-requires
+    form-at-requires
     enum-known-f
     empty-requires-2
-    enum-known-head
-    empty-requires-3
-    graphs-at-requires
-    ended-at-requires
+    enum-known-form
+    form-table-requires
     returns-2
     returns-3)

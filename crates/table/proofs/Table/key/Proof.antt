@@ -43,6 +43,12 @@ array-copy-out-result-9 c = search needs
 array-copy-out-result-10 : tie.Need-array-copy-out-result-10
 array-copy-out-result-10 c = search needs
 
+array-copy-out-result-11 : tie.Need-array-copy-out-result-11
+array-copy-out-result-11 c = search needs
+
+array-copy-out-result-12 : tie.Need-array-copy-out-result-12
+array-copy-out-result-12 c = search needs
+
 returns : tie.Need-returns
 unfolding keys
 returns c = rw (c .before .match .keys1)
@@ -85,11 +91,19 @@ returns-10 c = rw (c .before .match .keys10)
 
 returns-11 : tie.Need-returns-11
 unfolding keys
-returns-11 c =
+returns-11 c = rw (c .before .match .keys11)
+
+returns-12 : tie.Need-returns-12
+unfolding keys
+returns-12 c = rw (c .before .match .keys12)
+
+returns-13 : tie.Need-returns-13
+unfolding keys
+returns-13 c =
     let k = c .before .args .k in
     let h = c .match .rest in
     let past : length keys ≤ k =
-    next 9 k (next 8 k (next 7 k (next 6 k (next 5 k (next 4 k (next 3 k (next 2 k (next 1 k (next 0 k (omega arith) (h .0 .0 .0 .0 .0 .0 .0 .0 .0 .1)) (h .0 .0 .0 .0 .0 .0 .0 .0 .1)) (h .0 .0 .0 .0 .0 .0 .0 .1)) (h .0 .0 .0 .0 .0 .0 .1)) (h .0 .0 .0 .0 .0 .1)) (h .0 .0 .0 .0 .1)) (h .0 .0 .0 .1)) (h .0 .0 .1)) (h .0 .1)) (h .1) in
+    next 11 k (next 10 k (next 9 k (next 8 k (next 7 k (next 6 k (next 5 k (next 4 k (next 3 k (next 2 k (next 1 k (next 0 k (omega arith) (h .0 .0 .0 .0 .0 .0 .0 .0 .0 .0 .0 .1)) (h .0 .0 .0 .0 .0 .0 .0 .0 .0 .0 .1)) (h .0 .0 .0 .0 .0 .0 .0 .0 .0 .1)) (h .0 .0 .0 .0 .0 .0 .0 .0 .1)) (h .0 .0 .0 .0 .0 .0 .0 .1)) (h .0 .0 .0 .0 .0 .0 .1)) (h .0 .0 .0 .0 .0 .1)) (h .0 .0 .0 .0 .1)) (h .0 .0 .0 .1)) (h .0 .0 .1)) (h .0 .1)) (h .1) in
     rw (List·getD-eq-default keys noKey past)
 
 pub key-spec : {M : Type 1} → statement M
@@ -106,6 +120,8 @@ key-spec =
     array-copy-out-result-8
     array-copy-out-result-9
     array-copy-out-result-10
+    array-copy-out-result-11
+    array-copy-out-result-12
     returns
     returns-2
     returns-3
@@ -116,4 +132,6 @@ key-spec =
     returns-8
     returns-9
     returns-10
-    returns-11)
+    returns-11
+    returns-12
+    returns-13)
