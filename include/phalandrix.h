@@ -21,6 +21,7 @@
 #ifndef PHALANDRIX_H
 #define PHALANDRIX_H
 
+#include <stdbool.h>
 #include <stddef.h>
 #include <stdint.h>
 
@@ -63,7 +64,8 @@ typedef struct phalandrix_row_answer {
     REFUSAL(9, PAST_THE_STOP, "the instant asked is at or past the stop of a walk that does not repeat, or is above 4,000,000,000") \
     REFUSAL(10, SHORT_BUFFER, "the text of the answer is longer than the buffer") \
     REFUSAL(11, WRONG_LENGTHS, "there are not 1 to 16 tables, or their lengths do not add up to the bytes given") \
-    REFUSAL(12, CANNOT_KEEP_UP, "a node can never keep up: its budget is above its level times its period")
+    REFUSAL(12, CANNOT_KEEP_UP, "a node can never keep up: its budget is above its level times its period") \
+    REFUSAL(13, OFF_PROFILE, "the table is off the product line profile: a period does not divide the largest, an offset is not below its period, or a source has a level other than 1")
 
 /* The numbers: PHALANDRIX_ANSWERED, and one for each refusal above. */
 enum {
@@ -91,6 +93,8 @@ enum {
      * never refused as PHALANDRIX_SHORT_BUFFER; this is proved. */
     PHALANDRIX_REPORT_BYTES = 212,
     PHALANDRIX_ROW_BYTES = 384,
+    /* The same for a profile report. */
+    PHALANDRIX_PROFILE_BYTES = 464,
     /* The same for the text of a table that is written. */
     PHALANDRIX_WRITTEN_BYTES = 2616,
     /* The length of the longest text that a salvage leaves, and of its longest list. A salvage whose
@@ -196,6 +200,19 @@ typedef struct phalandrix_margin_answer {
 phalandrix_margin_answer phalandrix_margin(const uint8_t *table, size_t table_length,
                                            const uint8_t *limits, size_t limits_length,
                                            uint8_t *buffer, size_t buffer_length);
+
+/* The product line profile: true exactly when the table passes refusals 1 to 4, every period divides
+ * the largest, every offset is below its period, and the first node of each graph has level 1. Nothing
+ * else is looked at. */
+bool phalandrix_profile_check(const uint8_t *table, size_t table_length);
+
+/* The profile report: the report, then per graph a line `share=` with its periods in the hyperperiod,
+ * a comma and the ticks that its servers ran in the last round walked; then a line `total=` with the
+ * ticks that all servers ran in that round, a comma and the processor ticks without a server job.
+ * A table off the profile is refused as PHALANDRIX_OFF_PROFILE, with the line of the first value that
+ * is off, after 4 and before 5. */
+phalandrix_answer phalandrix_profile(const uint8_t *table, size_t table_length,
+                                     uint8_t *buffer, size_t buffer_length);
 
 /* Number, line and column 0 and the lengths of the text and of the list; or the number of a refusal,
  * 1 or 10, with line, column and both lengths 0. */

@@ -16,7 +16,7 @@ static const char too_slow[] =
 static const char report[] = "answer=0\nround=2\nticks=8\nresponse=6\n";
 static const char row[] = "run=1,1,2,2\n";
 
-enum { ROOM = PHALANDRIX_ROW_BYTES, UNTOUCHED = 0xA5 };
+enum { ROOM = PHALANDRIX_PROFILE_BYTES, UNTOUCHED = 0xA5 };
 
 static int failures;
 
@@ -254,6 +254,46 @@ static void salvages(void)
     }
 }
 
+static phalandrix_answer profile_in(uint8_t *buffer, const char *bytes, size_t room)
+{
+    memset(buffer, UNTOUCHED, ROOM);
+    return phalandrix_profile((const uint8_t *)bytes, strlen(bytes), buffer, room);
+}
+
+static void expect_check(const char *name, const char *bytes, bool fits)
+{
+    if (phalandrix_profile_check((const uint8_t *)bytes, strlen(bytes)) != fits) {
+        printf("the profile check of %s: not %d\n", name, (int)fits);
+        failures++;
+    }
+}
+
+/* The product line profile: an offset that equals its period, before a level of 2. */
+static void profiles(void)
+{
+    static const char text[] = "answer=0\nround=2\nticks=8\nresponse=6\nshare=1,2\ntotal=2,2\n";
+    static const char late[] =
+        "processors=1\nrounds=64\ngraphs=1\nperiod=4\noffset=4\nnodes=1\nbudget=1\nlevel=2\nafter=none\n";
+    uint8_t b[ROOM];
+    size_t n = strlen(text);
+
+    expect("profile", profile_in(b, table, PHALANDRIX_PROFILE_BYTES), b, PHALANDRIX_ANSWERED, 0, text);
+    expect("profile that just fits", profile_in(b, table, n), b, PHALANDRIX_ANSWERED, 0, text);
+    expect("profile one byte too long", profile_in(b, table, n - 1), b, PHALANDRIX_SHORT_BUFFER, 0, "");
+    expect("profile of a late offset", profile_in(b, late, ROOM), b, PHALANDRIX_OFF_PROFILE, 5, "");
+    expect_column("column of a late offset", profile_in(b, late, ROOM), 0);
+    expect("profile of a node that cannot keep up", profile_in(b, too_slow, ROOM), b, PHALANDRIX_CANNOT_KEEP_UP, 0, "");
+    expect("profile of no bytes", profile_in(b, "", ROOM), b, PHALANDRIX_MISSPELLED, 1, "");
+    expect_check("a table", table, true);
+    expect_check("a node that cannot keep up", too_slow, true);
+    expect_check("a late offset", late, false);
+    expect_check("no bytes", "", false);
+    if (phalandrix_profile_check(NULL, 0) || phalandrix_profile(NULL, 0, NULL, 0).number != PHALANDRIX_MISSPELLED) {
+        printf("the profile of nothing at all\n");
+        failures++;
+    }
+}
+
 /* The table twice, and the table with a misspelled one behind it. */
 static void expect_batches(void)
 {
@@ -312,12 +352,14 @@ int main(void)
     plain_calls();
     salvages();
     margins();
+    profiles();
     expect_batches();
     expect_sentence(PHALANDRIX_ANSWERED, "answered");
     expect_sentence(PHALANDRIX_TOO_LONG, "the table has more than 4,096 bytes");
     expect_sentence(10, "the text of the answer is longer than the buffer");
     expect_sentence(11, "there are not 1 to 16 tables");
     expect_sentence(12, "a node can never keep up");
+    expect_sentence(PHALANDRIX_OFF_PROFILE, "the table is off the product line profile");
     expect_sentence(UINT32_MAX, "no number");
     if (failures == 0)
         printf("the calls from C: as they should be\n");

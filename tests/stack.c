@@ -1,6 +1,6 @@
 /* The stack of the calls: each table named is reported, its row taken at 0 and at the last instant, it is
- * salvaged, reported twice in one call, read and written, held to limits, and reported and its row taken by the
- * plain engine, on a stack that was painted before, and the paint gone is counted. PHALANDRIX_STACK_BYTES must hold every
+ * salvaged, reported twice in one call, read and written, held to limits and to the profile, its profile reported,
+ * and reported and its row taken by the plain engine, on a stack that was painted before, and the paint gone is counted. PHALANDRIX_STACK_BYTES must hold every
  * call, and PHALANDRIX_PLAIN_STACK_BYTES the two of the plain engine. */
 #define _GNU_SOURCE
 #include "phalandrix.h"
@@ -38,6 +38,9 @@ static void make_margins(void)
     size_t count = reading.number == 0 ? reading.table.graphs : 1;
     phalandrix_margin(table, table_length, limits, 8 * count, buffer, sizeof buffer);
 }
+
+static void make_profile(void) { phalandrix_profile(table, table_length, buffer, sizeof buffer); }
+static void make_check(void) { phalandrix_profile_check(table, table_length); }
 
 static void make_batch(void)
 {
@@ -87,7 +90,7 @@ static size_t larger(size_t one, size_t other) { return one > other ? one : othe
 int main(int count, char **names)
 {
     size_t report = 0, row = 0, batch = 0, salvage = 0, reads = 0, writes = 0, margins = 0, without = used_by(nothing);
-    size_t plain_report = 0, plain_row = 0;
+    size_t plain_report = 0, plain_row = 0, profile = 0, check = 0;
 
     for (int i = 1; i < count; i++) {
         if (!read_table(names[i])) {
@@ -102,16 +105,19 @@ int main(int count, char **names)
         reads = larger(reads, used_by(make_reading) - without);
         writes = larger(writes, used_by(make_text) - without);
         margins = larger(margins, used_by(make_margins) - without);
+        profile = larger(profile, used_by(make_profile) - without);
+        check = larger(check, used_by(make_check) - without);
         plain_report = larger(plain_report, used_by(make_plain_report) - without);
         plain_row = larger(plain_row, used_by(make_plain_row) - without);
         plain_row = larger(plain_row, used_by(make_plain_far_row) - without);
     }
     printf("tests/stack: over %d tables report used %zu bytes of stack, row %zu, batch %zu, salvage %zu, "
-           "read %zu, write %zu, margin %zu; the header says %d; plain report used %zu, plain row %zu; the header says %d\n",
-           count - 1, report, row, batch, salvage, reads, writes, margins, PHALANDRIX_STACK_BYTES, plain_report,
+           "read %zu, write %zu, margin %zu, profile %zu, check %zu; the header says %d; plain report used %zu, plain row %zu; the header says %d\n",
+           count - 1, report, row, batch, salvage, reads, writes, margins, profile, check, PHALANDRIX_STACK_BYTES, plain_report,
            plain_row, PHALANDRIX_PLAIN_STACK_BYTES);
     return plain_report == 0 || plain_row == 0
         || larger(plain_report, plain_row) > PHALANDRIX_PLAIN_STACK_BYTES || report == 0 || row == 0 || batch == 0 || salvage == 0 || reads == 0 || writes == 0 || margins == 0
+        || profile == 0 || check == 0 || larger(profile, check) > PHALANDRIX_STACK_BYTES
         || larger(larger(larger(report, row), larger(batch, salvage)), larger(larger(reads, writes), margins))
             > PHALANDRIX_STACK_BYTES;
 }

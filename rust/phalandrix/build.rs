@@ -43,6 +43,10 @@ fn rust_of(header: &str) -> String {
     for (name, about) in [
         ("REPORT_BYTES", "The length of the longest report: no call with such a buffer is refused as 10."),
         ("ROW_BYTES", "The length of the longest row: no call with such a buffer is refused as 10."),
+        (
+            "PROFILE_BYTES",
+            "The length of the longest profile report: no call with such a buffer is refused as 10.",
+        ),
         ("SALVAGE_BYTES", "The length of the longest text that is left of a spoiled one."),
         ("FIXES_BYTES", "The length of the longest list of what was mended."),
         (

@@ -21,7 +21,7 @@ use Rattle.asking.specs.declared.questions.Asked.the-variants as Asked
 use Rattle.asking.specs.declared.lengths.Lengths.{Lengths}
 use Rattle.asking.specs.Instants.{atEnd, instantBy, instantOf}
 use Rattle.asking.specs.Lengths.{isAt, isNumber, noLengths, lengthsOn, lengthsBy}
-use Rattle.asking.specs.Questions.{row, batch, salvage, fixes, rewrite, plain, margin, longestWord, wholly, isWord, rowAsked, rewriteAsked, plainAsked, plainRowAsked, plainAskedBy, fileAsked, outputAsked, textAskedBy, textQuestion, batchAsked, questionOf, asked, fitting, Told}
+use Rattle.asking.specs.Questions.{row, batch, salvage, fixes, rewrite, plain, profile, check, margin, longestWord, wholly, isWord, rowAsked, rewriteAsked, plainAsked, profileAsked, plainRowAsked, plainAskedBy, fileAsked, outputAsked, textAskedBy, textQuestion, batchAsked, questionOf, asked, fitting, Told}
 
 -- a word by what the scanner of a text found
 module _ (w s : List ℕ) (r : Found) (found : foundOf s r ≡ text w s) where
@@ -64,6 +64,14 @@ no-fixes = refl
 no-rewrite : isWord rewrite [] ≡ false
 unfolding text
 no-rewrite = refl
+
+no-profile : isWord profile [] ≡ false
+unfolding text
+no-profile = refl
+
+no-check : isWord check [] ≡ false
+unfolding text
+no-check = refl
 
 no-plain : isWord plain [] ≡ false
 unfolding text
@@ -108,7 +116,7 @@ by-lengths ts = rw (unread-by noLengths ts, misspelled-by noLengths ts) (either 
 
 module _ (room second : ℕ) (l : longestWord ≤ room) (k : longestWord ≤ second) where
   by-output : (w : List ℕ) → outputAsked (fitting room w) ≡ outputAsked w
-  by-output w = rw (in-its-room salvage no-salvage room l w, in-its-room fixes no-fixes room (omega arith) w, in-its-room rewrite no-rewrite room l w, in-its-room plain no-plain room (omega arith) w)
+  by-output w = rw (in-its-room salvage no-salvage room l w, in-its-room fixes no-fixes room (omega arith) w, in-its-room rewrite no-rewrite room l w, in-its-room plain no-plain room (omega arith) w, in-its-room profile no-profile room l w, in-its-room check no-check room (omega arith) w)
 
   by-text : (w : List ℕ) (ts : List (List ℕ))
       → textAskedBy (suc (length (w ∷ ts))) (fitting room w) (instantOf (getD (w ∷ ts) 1 [])) (fitting second (getD (w ∷ ts) 1 [])) (instantOf (getD (w ∷ ts) 2 []))

@@ -10,7 +10,7 @@ use Rattle.format.specs.Bytes.{bytes}
 use Rattle.format.specs.Spelling.{Scan, read, wrong, text}
 use Rattle.asking.specs.declared.instants.Instant.{Instant}
 use Rattle.asking.specs.declared.instants.Instant.the-variants.{At, Misspelled, Unread}
-use Rattle.asking.specs.declared.questions.Question.the-variants.{Report, Row, Rewrite, PlainReport, PlainRow}
+use Rattle.asking.specs.declared.questions.Question.the-variants.{Report, Row, Rewrite, PlainReport, PlainRow, Profile, Check}
 use Rattle.asking.specs.declared.questions.Asked.{Asked}
 use Rattle.asking.specs.declared.questions.Asked.the-variants as Asked
 use Rattle.asking.specs.declared.lengths.Lengths.{Lengths}
@@ -32,6 +32,12 @@ fixes = bytes "fixes"
 
 abbrev pub rewrite : List ℕ
 rewrite = bytes "rewrite"
+
+abbrev pub profile : List ℕ
+profile = bytes "profile"
+
+abbrev pub check : List ℕ
+check = bytes "check"
 
 abbrev pub plain : List ℕ
 plain = bytes "plain"
@@ -59,8 +65,11 @@ rowAsked Unread = Asked.Unread
 abbrev pub batchAsked : Lengths → Asked
 batchAsked s = cond (s .unread) Asked.Unread (cond (s .misspelled) Asked.Usage Asked.Batch)
 
+abbrev pub profileAsked : List ℕ → Asked
+profileAsked w = cond (isWord profile w) (Asked.Answer Profile) (cond (isWord check w) (Asked.Answer Check) Asked.Usage)
+
 abbrev pub plainAsked : List ℕ → Asked
-plainAsked w = cond (isWord plain w) (Asked.Answer PlainReport) Asked.Usage
+plainAsked w = cond (isWord plain w) (Asked.Answer PlainReport) (profileAsked w)
 
 abbrev pub plainRowAsked : Instant → Asked
 plainRowAsked (At t) = Asked.Answer (PlainRow t)
@@ -75,7 +84,7 @@ abbrev pub rewriteAsked : List ℕ → Asked
 rewriteAsked w = cond (isWord rewrite w) (Asked.Answer Rewrite) (plainAsked w)
 
 -- by a word that stands alone: `salvage` asks for what is left of a text, `fixes` for the list of what was changed, `rewrite` for the table read
--- and written again, `plain` for the report by the plain engine
+-- and written again, `plain` for the report by the plain engine, `profile` for the profile report and `check` for the profile check
 abbrev pub outputAsked : List ℕ → Asked
 outputAsked w = cond (isWord salvage w) Asked.Salvage (cond (isWord fixes w) Asked.Fixes (rewriteAsked w))
 

@@ -5,6 +5,7 @@ mod instants;
 mod lengths;
 mod outputs;
 mod plains;
+mod profiles;
 mod questions;
 mod rewrites;
 

@@ -1,5 +1,6 @@
 // The words `plain` and `plain row`: the report and the row by the plain engine (R-7).
 use crate::instants::Instant;
+use crate::profiles::profile_asked;
 use crate::questions::Asked;
 use crate::questions::Question;
 use crate::questions::is_row;
@@ -23,7 +24,7 @@ pub fn plain_asked(word: &[u8]) -> Asked
     if is_plain(word) {
         Asked::Answer(Question::PlainReport)
     } else {
-        Asked::Usage
+        profile_asked(word)
     }
 }
 

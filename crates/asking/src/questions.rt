@@ -17,6 +17,8 @@ pub enum Question {
     Rewrite,
     PlainReport,
     PlainRow(u32),
+    Profile,
+    Check,
 }
 
 pub enum Asked {

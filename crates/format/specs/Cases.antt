@@ -11,7 +11,7 @@ use Rattle.schedule.specs.Lists.{joined}
 use Rattle.schedule.specs.Table.{Table}
 use Rattle.schedule.specs.Described as Described
 use Rattle.format.specs.declared.Refusal.{Refusal}
-use Rattle.format.specs.declared.Refusal.the-variants.{TooLong, Misspelled, OutsideLimits, AgainstPredecessorRules, LongHyperperiod, NotLoadable, Backlog, Unsettled, PastTheStop, ShortBuffer, WrongLengths, CannotKeepUp}
+use Rattle.format.specs.declared.Refusal.the-variants.{TooLong, Misspelled, OutsideLimits, AgainstPredecessorRules, LongHyperperiod, NotLoadable, Backlog, Unsettled, PastTheStop, ShortBuffer, WrongLengths, CannotKeepUp, OffProfile}
 use Rattle.format.specs.Bytes.{bytes, lineFeed, decimal}
 use Rattle.format.specs.Spelling.{Scan, read, wrong}
 use Rattle.format.specs.Reading.{Outcome, refused, done}
@@ -338,4 +338,5 @@ refusals =
     ∷ numbered ShortBuffer 10 0 0
     ∷ numbered WrongLengths 11 0 0
     ∷ numbered CannotKeepUp 12 0 0
+    ∷ numbered (OffProfile 17) 13 17 0
     ∷ []

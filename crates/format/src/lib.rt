@@ -17,4 +17,6 @@ pub enum Refusal {
     WrongLengths,
     // R-2: a node whose budget is above its level times its period.
     CannotKeepUp,
+    // R-11: a value that is not of the product line profile.
+    OffProfile { line: u32 },
 }

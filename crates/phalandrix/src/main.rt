@@ -1,7 +1,8 @@
 // The program: a table on standard input; on standard output its report or, with `row T`, its row at instant T, or, with `rewrite`, the table
 // read and written again. With `plain` and with `plain row T`, report and row by the plain engine. With `batch` and lengths, tables end to end
-// on standard input, and what is printed for each. With `salvage` the text is mended, and what is left is printed; with `fixes` the list of
-// what was changed. With `margin FILE` the margins against the limits in the file are printed.
+// on standard input, and what is printed for each. With `profile` the profile report, and with `check` whether the table is of the profile. With
+// `salvage` the text is mended, and what is left is printed; with `fixes` the list of what was changed. With `margin FILE` the margins against
+// the limits in the file are printed.
 use asking::Asked;
 use asking::Instant;
 use asking::Lengths;
@@ -50,7 +51,7 @@ enum Line {
 fn print_usage() {
     io::write_all(
         STDERR_FILENO,
-        b"usage: phalandrix < TABLE          the report\n       phalandrix row T < TABLE    the row at instant T\n       phalandrix batch L1 .. Ln < TABLES    the reports of tables end to end, of these lengths\n       phalandrix rewrite < TABLE  the table, read and written again\n       phalandrix plain < TABLE    the report, by the plain engine\n       phalandrix plain row T < TABLE    the row, by the plain engine\n       phalandrix salvage < TEXT   the text mended\n       phalandrix fixes < TEXT     what was mended\n       phalandrix margin FILE < TABLE    the margins against the limits in FILE\n",
+        b"usage: phalandrix < TABLE          the report\n       phalandrix row T < TABLE    the row at instant T\n       phalandrix batch L1 .. Ln < TABLES    the reports of tables end to end, of these lengths\n       phalandrix rewrite < TABLE  the table, read and written again\n       phalandrix plain < TABLE    the report, by the plain engine\n       phalandrix plain row T < TABLE    the row, by the plain engine\n       phalandrix profile < TABLE  the profile report\n       phalandrix check < TABLE    whether the table is of the profile\n       phalandrix salvage < TEXT   the text mended\n       phalandrix fixes < TEXT     what was mended\n       phalandrix margin FILE < TABLE    the margins against the limits in FILE\n",
     );
 }
 

@@ -1,2 +1,3 @@
+pub mod ProfileReplies
 pub mod Printed
 pub mod Batches

@@ -23,9 +23,13 @@ use Rattle.editing.proofs.Rewritten.{every-rewrite-fits, rewrite-of-cut}
 use Rattle.sheet.proofs.Room.{every-report-fits}
 use Rattle.sheet.proofs.RowRoom.{every-row-fits}
 use Rattle.asking.specs.declared.questions.Question.{Question}
-use Rattle.asking.specs.declared.questions.Question.the-variants.{Report, Row, Rewrite, PlainReport, PlainRow}
+use Rattle.asking.specs.declared.questions.Question.the-variants.{Report, Row, Rewrite, PlainReport, PlainRow, Profile, Check}
 use Rattle.printing.specs.Rooms.{Holds}
-use Rattle.printing.specs.Questions.{replyOf, longestAnswer}
+use Rattle.profiles.specs.Report.{profileOf}
+use Rattle.profilelines.specs.Lines.{longestProfile}
+use Rattle.profile.proofs.Room.{every-profile-fits}
+use Rattle.printing.specs.Questions.{checkReply, replyOf, longestAnswer}
+use Rattle.printing.proofs.ProfileReplies.{every-check-fits, profile-of-cut, check-of-cut}
 use borrow.Author.Tests.{le-leb}
 use Rattle.sheet.specs.Calls.{called}
 
@@ -70,6 +74,8 @@ reply-fits (Row t) table n l = fits (rowOf table t) n longestRow (every-row-fits
 reply-fits Rewrite table n l = fits (rewriteOf table) n longestWritten (every-rewrite-fits table) l
 reply-fits PlainReport table n l = fits (reportOf table) n longestReport (every-report-fits table) l
 reply-fits (PlainRow t) table n l = fits (rowOf table t) n longestRow (every-row-fits table t) l
+reply-fits Profile table n l = fits (profileOf table) n longestProfile (every-profile-fits table) l
+reply-fits Check table n l = fits (checkReply table) n longestRefusal (every-check-fits table) l
 
 answer-short : (q : Question) (table s : List ℕ) → replyOf q table ≡ says s → length s ≤ longestAnswer q
 answer-short Report table s e = every-report-fits table s e
@@ -77,6 +83,8 @@ answer-short (Row t) table s e = every-row-fits table t s e
 answer-short Rewrite table s e = every-rewrite-fits table s e
 answer-short PlainReport table s e = every-report-fits table s e
 answer-short (PlainRow t) table s e = every-row-fits table t s e
+answer-short Profile table s e = every-profile-fits table s e
+answer-short Check table s e = every-check-fits table s e
 
 pub refusal-short : (q : Question) (n : ℕ) → n ≤ longestRefusal → n ≤ longestAnswer q
 refusal-short Report n h = omega arith
@@ -84,6 +92,8 @@ refusal-short (Row t) n h = omega arith
 refusal-short Rewrite n h = omega (arith, h, longest-is)
 refusal-short PlainReport n h = omega arith
 refusal-short (PlainRow t) n h = omega arith
+refusal-short Profile n h = omega arith
+refusal-short Check n h = h
 
 -- room for the longest table is room for every answer
 pub answers-fit : (q : Question) (n : ℕ) → longestWritten ≤ n → longestAnswer q ≤ n
@@ -92,6 +102,8 @@ answers-fit (Row t) n l = omega (arith, l, longest-is)
 answers-fit Rewrite n l = l
 answers-fit PlainReport n l = omega (arith, l, longest-is)
 answers-fit (PlainRow t) n l = omega (arith, l, longest-is)
+answers-fit Profile n l = omega (arith, l, longest-is)
+answers-fit Check n l = omega (arith, l, longest-is)
 
 module _ (q : Question) (table before after : List ℕ) (room : longestAnswer q ≤ length before) where
   answered : (x : Answer) → called x after ≡ callOf before (replyOf q table) → called x after ≡ left before (replyOf q table)
@@ -121,6 +133,8 @@ reply-of-cut (Row t) room h s = row-of-cut room h s t
 reply-of-cut Rewrite room h s = rewrite-of-cut room h s
 reply-of-cut PlainReport room h s = report-of-cut room h s
 reply-of-cut (PlainRow t) room h s = row-of-cut room h s t
+reply-of-cut Profile room h s = profile-of-cut room h s
+reply-of-cut Check room h s = check-of-cut room h s
 
 -- what is printed for the bytes in a room past the limit is what is printed for the input that it holds
 pub held-printed : (q : Question) (room before after : List ℕ) (n m : ℕ) → tableBytes .to < length room

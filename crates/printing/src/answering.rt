@@ -1,4 +1,5 @@
 // What the program prints for a question about a table.
+use crate::checking::put_check;
 use asking::Question;
 use rules::Answer;
 ghost use mathlib.Core.Path.{_≡_};
@@ -40,6 +41,8 @@ pub fn asked(q: Question, table: &[u8], text: &mut [u8]) -> Answer
         Question::Rewrite => editing::rewrite(table, text),
         Question::PlainReport => plain::plain_report(table, text),
         Question::PlainRow(instant) => asked_plain_row(table, instant as u64, text),
+        Question::Profile => profile::profile(table, text),
+        Question::Check => put_check(table, text),
     }
 }
 

@@ -1,6 +1,7 @@
 // What the program prints: for a question about a table, and for several tables.
 mod answering;
 mod batching;
+mod checking;
 
 pub use answering::put_answer_to;
 pub use batching::SLOT;

@@ -20,7 +20,7 @@ unfolding readOf
 too-long s h = rw (lt-leb (length s) (Limits.tableBytes .to) h)
 
 module _ (room : ℕ) (past : Limits.tableBytes .to < room) (s : List ℕ) where
-  read-of-cut : readOf (take room s) ≡ readOf s
+  pub read-of-cut : readOf (take room s) ≡ readOf s
   read-of-cut =
       by-lt room (length s)
       (λ h. let is : length (take room s) ≡ room = length-take-le room s (omega arith) in

@@ -27,6 +27,7 @@ pub fn number_of(r: Refusal) -> u32
         Refusal::ShortBuffer => 10,
         Refusal::WrongLengths => 11,
         Refusal::CannotKeepUp => 12,
+        Refusal::OffProfile { line: _ } => 13,
     }
 }
 
@@ -46,6 +47,7 @@ pub fn line_of(r: Refusal) -> u32
         Refusal::ShortBuffer => 0,
         Refusal::WrongLengths => 0,
         Refusal::CannotKeepUp => 0,
+        Refusal::OffProfile { line } => line,
     }
 }
 
@@ -65,6 +67,7 @@ pub fn column_of(r: Refusal) -> u32
         Refusal::ShortBuffer => 0,
         Refusal::WrongLengths => 0,
         Refusal::CannotKeepUp => 0,
+        Refusal::OffProfile { line: _ } => 0,
     }
 }
 

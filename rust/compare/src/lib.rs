@@ -6,6 +6,7 @@
 //! - `batches`: calls on several tables;
 //! - `mending`: the calls of salvage on one spoiled text;
 //! - `margins`: the margins of one table against limit texts;
+//! - `profiles`: the profile check and the profile report of one table;
 //! - `writer`: tables in memory, read and written;
 //! - `shrink`, `loose`: a smaller table with the same difference;
 //! - `run`: the tables of a range of seeds, on several threads;
@@ -22,6 +23,7 @@ pub mod margins;
 pub mod mending;
 pub mod options;
 pub mod outcomes;
+pub mod profiles;
 pub mod run;
 pub mod shrink;
 pub mod writer;

@@ -34,6 +34,16 @@ pub trait Library: Sync {
         None
     }
 
+    /// Whether a table is of the product line profile; none where the library has no such call.
+    fn profile_check(&self, _table: &[u8]) -> Option<bool> {
+        None
+    }
+
+    /// The profile report; none where the library has no such call.
+    fn profile(&self, _table: &[u8], _buffer: &mut [u8]) -> Option<Answer> {
+        None
+    }
+
     /// A table in memory, written; none where the library has no such call.
     fn write(&self, _memory: &Memory, _buffer: &mut [u8]) -> Option<Answer> {
         None
@@ -154,6 +164,15 @@ impl Library for Proved {
             phalandrix::margin(table, limits, buffer);
         assert!(in_limits <= 1, "in_limits is 0 or 1");
         Some((Answer { number, line, column, length }, in_limits == 1))
+    }
+
+    fn profile_check(&self, table: &[u8]) -> Option<bool> {
+        Some(phalandrix::profile_check(table))
+    }
+
+    fn profile(&self, table: &[u8], buffer: &mut [u8]) -> Option<Answer> {
+        let phalandrix::Answer { number, line, column, length } = phalandrix::profile(table, buffer);
+        Some(Answer { number, line, column, length })
     }
 
     fn write(&self, memory: &Memory, buffer: &mut [u8]) -> Option<Answer> {

@@ -2,13 +2,15 @@
 
 use crate::margins::Margins;
 use crate::mending::Mendings;
+use crate::profiles::Profiles;
 use crate::writer::Seen;
 use simulator::demand3::Looked;
 use simulator::overlap;
 use std::fmt;
 use std::ops::AddAssign;
 
-/// The numbers of the refusals, rising.
+/// The numbers of the refusals of reports, rows and calls on several tables, rising. Those of margins and of
+/// profile reports are counted apart.
 pub const REFUSALS: [usize; 12] = [1, 2, 3, 4, 5, 6, 7, 8, 9, 10, 11, 12];
 
 /// How often there was each number: 0 for an answer, else the refusal.
@@ -44,6 +46,8 @@ pub struct Outcomes {
     pub memory: Seen,
     /// Margins against limit texts.
     pub margins: Margins,
+    /// Profile checks and profile reports.
+    pub profiles: Profiles,
 }
 
 impl Outcomes {
@@ -74,7 +78,8 @@ impl Outcomes {
             all.push(("a start after an earlier job".into(), self.overlap.starts));
         }
         let missing = all.into_iter().filter(|(_, count)| *count == 0).map(|(outcome, _)| outcome);
-        missing.chain(self.memory.missing()).chain(self.margins.missing()).collect()
+        let of_calls = self.memory.missing().into_iter().chain(self.margins.missing());
+        missing.chain(of_calls).chain(self.profiles.missing()).collect()
     }
 }
 
@@ -93,6 +98,7 @@ impl AddAssign<&Outcomes> for Outcomes {
         self.mendings += &other.mendings;
         self.memory += &other.memory;
         self.margins += &other.margins;
+        self.profiles += &other.profiles;
     }
 }
 
@@ -120,6 +126,7 @@ impl fmt::Display for Outcomes {
         )?;
         write!(out, "; {}", self.mendings)?;
         write!(out, "; {}", self.memory)?;
-        write!(out, "; {}", self.margins)
+        write!(out, "; {}", self.margins)?;
+        write!(out, "; {}", self.profiles)
     }
 }

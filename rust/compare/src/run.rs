@@ -8,9 +8,10 @@ use crate::margins;
 use crate::mending::{self, Mendings};
 use crate::options::Options;
 use crate::outcomes::Outcomes;
+use crate::profiles;
 use crate::shrink::shrink;
 use crate::writer;
-use generator::{Rng, make, make_batch, spoiled};
+use generator::{Rng, make, make_batch, near_profile, spoiled};
 use simulator::question::judge;
 use simulator::reader::read;
 use simulator::walk::walk;
@@ -30,6 +31,7 @@ pub enum Fault {
     Overlap { seed: u64, table: Vec<u8>, what: String },
     Memory { seed: u64, table: Vec<u8>, what: String },
     Margin { seed: u64, table: Vec<u8>, what: String },
+    Profile { seed: u64, table: Vec<u8>, what: String },
 }
 
 /// Every so many seeds a call on several tables is made.
@@ -97,6 +99,10 @@ fn run_seed(library: &dyn Library, seed: u64, by_force: bool, outcomes: &mut Out
     outcomes.memory += &in_memory.map_err(|what| Fault::Memory { seed, table: table.clone(), what })?;
     let against = margins::check(library, &table, &report, &mut rng_for(seed));
     outcomes.margins += &against.map_err(|what| Fault::Margin { seed, table: table.clone(), what })?;
+    for table in [&table, &near_profile(seed)] {
+        let held = profiles::check(library, table, &mut rng_for(seed));
+        outcomes.profiles += &held.map_err(|what| Fault::Profile { seed, table: table.clone(), what })?;
+    }
     if by_force {
         outcomes.looked(force(seed, &table)?);
         outcomes.overlap += force_overlap(seed, &table)?;
@@ -191,7 +197,8 @@ impl Fault {
             | Fault::Demand3 { seed, .. }
             | Fault::Overlap { seed, .. }
             | Fault::Memory { seed, .. }
-            | Fault::Margin { seed, .. } => *seed,
+            | Fault::Margin { seed, .. }
+            | Fault::Profile { seed, .. } => *seed,
         }
     }
 }
@@ -219,7 +226,7 @@ impl fmt::Display for Fault {
             Fault::Memory { seed, table, what } => {
                 write!(out, "seed {seed} differs in memory: {what}\n{}", shown(table))
             }
-            Fault::Margin { seed, table, what } => {
+            Fault::Margin { seed, table, what } | Fault::Profile { seed, table, what } => {
                 write!(out, "seed {seed} differs: {what}\n{}", shown(table))
             }
         }

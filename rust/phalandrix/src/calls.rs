@@ -116,6 +116,8 @@ unsafe extern "C" {
         buffer: *mut u8,
         buffer_len: usize,
     ) -> RowAnswer;
+    fn phalandrix_profile(table: *const u8, table_len: usize, buffer: *mut u8, buffer_len: usize) -> Answer;
+    fn phalandrix_profile_check(table: *const u8, table_len: usize) -> bool;
     fn phalandrix_batch(
         tables: *const u8,
         tables_len: usize,
@@ -153,6 +155,21 @@ pub fn plain_report(table: &[u8], buffer: &mut [u8]) -> Answer {
 pub fn plain_row(table: &[u8], instant: u64, buffer: &mut [u8]) -> RowAnswer {
     // SAFETY: as in `row`.
     unsafe { phalandrix_plain_row(table.as_ptr(), table.len(), instant, buffer.as_mut_ptr(), buffer.len()) }
+}
+
+/// The profile report of a table: its report, a share of each graph and the totals, written at the
+/// beginning of the lent buffer. The rest of the buffer is left as it was, and on refusal all of it.
+pub fn profile(table: &[u8], buffer: &mut [u8]) -> Answer {
+    // SAFETY: as in `report`.
+    unsafe { phalandrix_profile(table.as_ptr(), table.len(), buffer.as_mut_ptr(), buffer.len()) }
+}
+
+/// Whether a table is of the product line profile: it passes refusals 1 to 4, every period divides the
+/// largest, every offset is below its period, and the first node of each graph has level 1.
+#[must_use]
+pub fn profile_check(table: &[u8]) -> bool {
+    // SAFETY: the pointer comes with the length of its own slice, which lives through the call.
+    unsafe { phalandrix_profile_check(table.as_ptr(), table.len()) }
 }
 
 /// The reports of 1 to 16 tables that stand end to end, with a list of their lengths. The lent buffer is cut

@@ -40,12 +40,13 @@
 //! - `salvage`: a text that another editor spoiled, mended;
 //! - `refusal`: the refusals, with the list made from the C header;
 //! - `tables`: a table in memory, read and written;
-//! - `reports`, `rows`: the answers as values, in a `text` of their own.
+//! - `reports`, `rows`, `profiles`: the answers as values, in a `text` of their own.
 #![no_std]
 #![deny(unsafe_op_in_unsafe_fn, clippy::undocumented_unsafe_blocks, missing_docs)]
 
 mod calls;
 mod margins;
+mod profiles;
 mod refusal;
 mod reports;
 mod rows;
@@ -53,11 +54,15 @@ mod salvage;
 mod tables;
 mod text;
 
-pub use calls::{Answer, BatchAnswer, RowAnswer, batch, plain_report, plain_row, report, row, shares};
+pub use calls::{
+    Answer, BatchAnswer, RowAnswer, batch, plain_report, plain_row, profile, profile_check, report, row,
+    shares,
+};
 pub use margins::{MarginAnswer, MarginRefusal, Margins, margin, margins_of};
+pub use profiles::{Profile, Share, profile_of};
 pub use refusal::{
-    FIXES_BYTES, InTable, MARGIN_BYTES, PLAIN_STACK_BYTES, REPORT_BYTES, ROW_BYTES, Reason, Refusal,
-    SALVAGE_BYTES, STACK_BYTES, TABLES, VERSION, WRITTEN_BYTES,
+    FIXES_BYTES, InTable, MARGIN_BYTES, PLAIN_STACK_BYTES, PROFILE_BYTES, REPORT_BYTES, ROW_BYTES, Reason,
+    Refusal, SALVAGE_BYTES, STACK_BYTES, TABLES, VERSION, WRITTEN_BYTES,
 };
 pub use reports::{Report, report_of};
 pub use rows::{Row, Run, row_at};

@@ -15,6 +15,7 @@
 //! - `far`: rows past the stop;
 //! - `margin`: R-12, the margins against a text of limits;
 //! - `salvage`: R-5, from document 02 alone;
+//! - `profile`: R-11, from document 02 alone;
 //! - `demand3`: the figure checked by force;
 //! - `overlap`: R-8 checked by force.
 #![forbid(unsafe_code)]
@@ -28,6 +29,7 @@ pub mod load;
 pub mod margin;
 pub mod memory;
 pub mod overlap;
+pub mod profile;
 pub mod question;
 pub mod reader;
 pub mod reply;
@@ -41,6 +43,7 @@ pub mod walk;
 pub use batch::{Batch, batch};
 pub use margin::{Margin, margin};
 pub use memory::Memory;
+pub use profile::profile;
 pub use question::{report, row};
 pub use reply::{Answer, Refusal, Reply, lend};
 pub use table::{Graph, Node, Table};

@@ -27,7 +27,7 @@ pub fn judge(bytes: &[u8]) -> Result<(Table, u32), Refusal> {
 }
 
 /// The report of a walk, or refusals 7 and 8.
-fn report_of(walk: &Walk) -> Reply {
+pub(crate) fn report_of(walk: &Walk) -> Reply {
     match walk.stop {
         Stop::Backlog => Reply::Refused { number: 7, line: 0, column: 0 },
         Stop::Unsettled => Reply::Refused { number: 8, line: 0, column: 0 },

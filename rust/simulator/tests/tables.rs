@@ -2,11 +2,13 @@
 //! answer beside it: `NAME.answer` is the report of `NAME.table`,
 //! `NAME.row-T.answer` its row at instant T, `NAME.salvage.answer` what salvage
 //! leaves of it, and `NAME.fixes.answer` the list. `NAME.CASE.margin.answer` are
-//! its margins against `NAME.CASE.limits`. `FOLDER.batch.answer` is what is
+//! its margins against `NAME.CASE.limits`; `NAME.check.answer` is whether it is
+//! of the product line profile, `NAME.profile.answer` its profile report. `FOLDER.batch.answer` is what is
 //! printed for the tables of a folder in one call.
 
+use simulator::profile::check;
 use simulator::salvage::{Mended, salvage};
-use simulator::{Answer, Reply, batch, margin, report, row};
+use simulator::{Answer, Reply, batch, margin, profile, report, row};
 use std::fs;
 use std::path::Path;
 
@@ -73,6 +75,8 @@ fn every_table_has_the_answer_beside_it() {
                 report(&table)
             }
             "salvage" => output(&table, |mended| mended.text),
+            "check" => Reply::Text(format!("profile={}\n", if check(&table) { "yes" } else { "no" }).into()),
+            "profile" => profile(&table),
             "fixes" => output(&table, |mended| mended.list),
             question if question.ends_with(".margin") => {
                 let case = question.trim_end_matches(".margin");

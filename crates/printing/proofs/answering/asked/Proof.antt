@@ -39,6 +39,18 @@ cast-asked-plain-row c = search needs
 asked-plain-row-requires : tie.Need-asked-plain-row-requires
 asked-plain-row-requires c κs = search needs
 
+enum-told-4 : tie.Need-enum-told-4
+enum-told-4 c = search needs
+
+profile-requires : tie.Need-profile-requires
+profile-requires c κs = search needs
+
+enum-told-5 : tie.Need-enum-told-5
+enum-told-5 c = search needs
+
+put-check-requires : tie.Need-put-check-requires
+put-check-requires c κs = search needs
+
 same-length : tie.Need-same-length
 same-length c = search needs
 
@@ -69,6 +81,18 @@ same-length-5 c = search needs
 returns-5 : tie.Need-returns-5
 returns-5 c = rw (c .before .before .before .before .before .q2 .given .1) (c .before .before .asked-plain-row .ensures)
 
+same-length-6 : tie.Need-same-length-6
+same-length-6 c = search needs
+
+returns-6 : tie.Need-returns-6
+returns-6 c = rw (c .before .before .before .before .enum-told4 .given .1) (c .before .before .profile .ensures .0)
+
+same-length-7 : tie.Need-same-length-7
+same-length-7 c = search needs
+
+returns-7 : tie.Need-returns-7
+returns-7 c = rw (c .before .before .before .before .enum-told5 .given .1) (c .before .before .put-check .ensures)
+
 pub asked-spec : {M : Type 1} → statement M
 asked-spec =
     tie.close
@@ -85,6 +109,10 @@ asked-spec =
     enum-known-q-2
     cast-asked-plain-row
     asked-plain-row-requires
+    enum-told-4
+    profile-requires
+    enum-told-5
+    put-check-requires
     same-length
     returns
     same-length-2
@@ -94,4 +122,8 @@ asked-spec =
     same-length-4
     returns-4
     same-length-5
-    returns-5)
+    returns-5
+    same-length-6
+    returns-6
+    same-length-7
+    returns-7)

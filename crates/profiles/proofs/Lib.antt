@@ -1,0 +1,3 @@
+pub mod LargestPeriod
+pub mod TrueProfiles
+pub mod Cases

@@ -1,0 +1,4 @@
+pub mod Profile
+pub mod Report
+pub mod Demands
+pub mod Cases

@@ -1,0 +1,1 @@
+// The product line profile, and what is proved of it: specs/ and proofs/. This crate has no code.
