@@ -11,7 +11,7 @@ use Rattle.schedule.specs.Lists.{joined}
 use Rattle.schedule.specs.Table.{Table}
 use Rattle.schedule.specs.Described as Described
 use Rattle.format.specs.declared.Refusal.{Refusal}
-use Rattle.format.specs.declared.Refusal.the-variants.{TooLong, Misspelled, OutsideLimits, AgainstPredecessorRules, LongHyperperiod, NotLoadable, Backlog, Unsettled, PastTheStop, ShortBuffer, WrongLengths, CannotKeepUp}
+use Rattle.format.specs.declared.Refusal.the-variants.{TooLong, Misspelled, OutsideLimits, AgainstPredecessorRules, LongHyperperiod, NotLoadable, Backlog, Unsettled, PastTheStop, ShortBuffer, WrongLengths, CannotKeepUp, WrongUse}
 use Rattle.format.specs.Bytes.{bytes, lineFeed, decimal}
 use Rattle.format.specs.Spelling.{Scan, read, wrong}
 use Rattle.format.specs.Reading.{Outcome, refused, done}
@@ -291,7 +291,7 @@ numberCases =
     ∷ unspelled "-1"
     ∷ []
 
--- the nine keys with the limits of their numbers, of `after` those of each number of its list
+-- the keys with the limits of their numbers, of `after` those of each number of its list
 pub record KeyCase : Type 0 where
   pub name : String
   pub from : ℕ
@@ -312,6 +312,9 @@ keyCases =
     ∷ named "level" 1 4
     ∷ named "after" 1 15
     ∷ named "limit" 0 2000000
+    ∷ named "invocations" 1 64
+    ∷ named "start" 0 65535
+    ∷ named "end" 0 65535
     ∷ []
 
 -- the number, line and column of each refusal
@@ -338,4 +341,5 @@ refusals =
     ∷ numbered ShortBuffer 10 0 0
     ∷ numbered WrongLengths 11 0 0
     ∷ numbered CannotKeepUp 12 0 0
+    ∷ numbered (WrongUse 5) 15 5 0
     ∷ []

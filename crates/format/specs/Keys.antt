@@ -1,5 +1,5 @@
 -- The nine keys of a table in the order in which they stand, each with its name and the limits of its number; of `after`, those of each
--- number of its list. Behind them the one key of a limit text (document 02, R-12).
+-- number of its list. Behind them the one key of a limit text (document 02, R-12), and those of a recording (R-14).
 use mathlib.Core.List.{List, [], _∷_}
 use Prim.Native.Nat.{ℕ}
 use Prim.Native.String.{String}
@@ -27,6 +27,9 @@ keys =
     ∷ key "level" Limits.level
     ∷ key "after" Limits.predecessor
     ∷ key "limit" Limits.limit
+    ∷ key "invocations" Limits.invocations
+    ∷ key "start" Limits.count
+    ∷ key "end" Limits.count
     ∷ []
 
 -- what stands past the last one
@@ -66,3 +69,12 @@ after = 8
 
 abbrev pub limit : ℕ
 limit = 9
+
+abbrev pub invocations : ℕ
+invocations = 10
+
+abbrev pub start : ℕ
+start = 11
+
+abbrev pub end : ℕ
+end = 12

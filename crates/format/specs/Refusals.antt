@@ -2,7 +2,7 @@
 -- in its line.
 use Prim.Native.Nat.{ℕ}
 use Rattle.format.specs.declared.Refusal.{Refusal}
-use Rattle.format.specs.declared.Refusal.the-variants.{TooLong, Misspelled, OutsideLimits, AgainstPredecessorRules, LongHyperperiod, NotLoadable, Backlog, Unsettled, PastTheStop, ShortBuffer, WrongLengths, CannotKeepUp}
+use Rattle.format.specs.declared.Refusal.the-variants.{TooLong, Misspelled, OutsideLimits, AgainstPredecessorRules, LongHyperperiod, NotLoadable, Backlog, Unsettled, PastTheStop, ShortBuffer, WrongLengths, CannotKeepUp, WrongUse}
 
 abbrev pub numberOf : Refusal → ℕ
 numberOf TooLong = 1
@@ -17,6 +17,7 @@ numberOf PastTheStop = 9
 numberOf ShortBuffer = 10
 numberOf WrongLengths = 11
 numberOf CannotKeepUp = 12
+numberOf (WrongUse l) = 15
 
 abbrev pub lineOf : Refusal → ℕ
 lineOf TooLong = 0
@@ -31,6 +32,7 @@ lineOf PastTheStop = 0
 lineOf ShortBuffer = 0
 lineOf WrongLengths = 0
 lineOf CannotKeepUp = 0
+lineOf (WrongUse l) = l
 
 abbrev pub columnOf : Refusal → ℕ
 columnOf TooLong = 0
@@ -45,3 +47,4 @@ columnOf PastTheStop = 0
 columnOf ShortBuffer = 0
 columnOf WrongLengths = 0
 columnOf CannotKeepUp = 0
+columnOf (WrongUse l) = 0

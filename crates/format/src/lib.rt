@@ -17,4 +17,6 @@ pub enum Refusal {
     WrongLengths,
     // R-2: a node whose budget is above its level times its period.
     CannotKeepUp,
+    // R-14: a job that used nothing, or more than its budget.
+    WrongUse { line: u32 },
 }

@@ -6,7 +6,7 @@ use native.Mathlib.Omega.{arith}
 use lib.ListN.{length-map}
 use Rattle.format.specs.declared.Refusal.{Refusal}
 use Rattle.format.specs.declared.Refusal.the-variants.{TooLong, Misspelled, OutsideLimits, AgainstPredecessorRules, LongHyperperiod, NotLoadable}
-use Rattle.format.specs.declared.Refusal.the-variants.{Backlog, Unsettled, PastTheStop, ShortBuffer, WrongLengths, CannotKeepUp}
+use Rattle.format.specs.declared.Refusal.the-variants.{Backlog, Unsettled, PastTheStop, ShortBuffer, WrongLengths, CannotKeepUp, WrongUse}
 use Rattle.format.specs.Refusals.{numberOf}
 use Rattle.rules.specs.AnswerNumbers.{answerNumber}
 use Rattle.schedule.specs.Table.{Table}
@@ -34,6 +34,7 @@ number-some PastTheStop e = omega arith
 number-some ShortBuffer e = omega arith
 number-some WrongLengths e = omega arith
 number-some CannotKeepUp e = omega arith
+number-some (WrongUse l) e = omega arith
 
 module _ (bytes : List ℕ) where
   report-is : (U : Table) → admissionOf bytes ≡ admitted U → (how : Stop) → (wholeWalk (boxOf U)) .how ≡ how

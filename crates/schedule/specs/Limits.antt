@@ -66,3 +66,13 @@ unfinished = 64
 -- tables of one call (R-1)
 abbrev pub tables : Range
 tables = record { from = 1; to = 16 }
+
+-- a recording (R-14): its bytes, the invocations that it lists, and a reading of the 16-bit count
+abbrev pub recordingBytes : Range
+recordingBytes = record { from = 0; to = 50000 }
+
+abbrev pub invocations : Range
+invocations = record { from = 1; to = 64 }
+
+abbrev pub count : Range
+count = record { from = 0; to = 65535 }

@@ -1,0 +1,5 @@
+pub mod Uses
+pub mod Forward
+pub mod Worsts
+pub mod TrueReplays
+pub mod Cases

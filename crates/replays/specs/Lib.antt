@@ -1,0 +1,4 @@
+pub mod Recording
+pub mod Replay
+pub mod Demands
+pub mod Cases
