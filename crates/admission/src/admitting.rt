@@ -12,14 +12,14 @@ use numbers::Multiple;
 use reading::{End, table_read};
 use table::Table;
 
-#[derive(Drop)]
+#[derive(Clone, Copy)]
 pub enum Verdict {
     Passed,
     Refused(Refusal),
 }
 
 // An admitted table and its hyperperiod; on a refusal the empty table and 0.
-#[derive(Drop)]
+#[derive(Clone, Copy)]
 pub struct Admitted {
     pub table: Table,
     pub hyperperiod: u32,

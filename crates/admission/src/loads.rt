@@ -9,7 +9,7 @@ use numbers::Multiple;
 use table::{Graph, Node, Table};
 
 // What is left of the processors' ticks in a hyperperiod; or that they are not enough.
-#[derive(Drop)]
+#[derive(Clone, Copy)]
 pub enum Room {
     Left(u64),
     Over,

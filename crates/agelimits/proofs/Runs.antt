@@ -8,7 +8,7 @@ use lib.ListN.{length, take, set}
 use lib.Seq.{append_snoc, take-suc-set}
 use Rattle.format.specs.declared.Refusal.{Refusal}
 use Rattle.format.specs.Keys as Keys
-use Rattle.format.specs.Reading.{Place, Outcome, refused, done, ◌and-then◌, number_line}
+use Rattle.format.specs.Reading.{Place, Outcome, refused, done, ◌and_then◌, number_line}
 use Rattle.lines.specs.Numbered.{map_outcome}
 use Rattle.margins.specs.Margins.{limits_from}
 use Rattle.agelimits.specs.Read.{behind}

@@ -1,7 +1,9 @@
 // The limit text of a table (document 02, R-12): one `limit=` line for each graph. A line of it is read as a table's is, by the same keys.
+#![tactic(auto)]
+
 ghost use Rattle.std.specs.Prelude.{◌≡◌, ◌≤◌, length};
 ghost use Rattle.schedule.specs.Limits as Limits;
-ghost use Rattle.format.specs.Reading.{◌and-then◌, ended};
+ghost use Rattle.format.specs.Reading.{◌and_then◌, ended};
 ghost use Rattle.margins.specs.Margins.{limits_from, limits_of};
 ghost use Rattle.agelimits.specs.Read.{limits_read_of, start};
 
@@ -11,7 +13,7 @@ use reading::End;
 use table::Table;
 
 // The limits of the graphs, in their order, and how the text ended.
-#[derive(Drop)]
+#[derive(Clone, Copy)]
 pub struct LimitsRead {
     pub limits: [u32; Table::GRAPHS],
     pub end: End,

@@ -1,6 +1,8 @@
 // Reads cases from standard input (document 01's worked tables, and the edges of reading) and prints the answer to each. A case is a mark, a
 // label, LF, and the bytes of a table up to the next mark; no table here has a byte that is a mark. The mark says what is printed: the report, the
 // rows at the first instants, what reading comes to, or the same of each cut of the table.
+#![tactic(auto)]
+
 ghost use Rattle.std.specs.Prelude.{◌<◌, ◌≤◌, length};
 
 use admission::{Admitted, Verdict};

@@ -6,7 +6,7 @@ ghost use Rattle.asking.specs.Arguments.{within_on, before_on, passed_on, passed
 use crate::instants::{Instant, Spelled, instant_in, spelled_on};
 
 // How far the command line has been read: so many arguments end before the one asked for begins; within it; after it.
-#[derive(Drop)]
+#[derive(Clone, Copy)]
 pub enum Passed {
     Before(usize),
     Within(Spelled),

@@ -3,7 +3,7 @@
 ghost use Rattle.std.specs.Prelude.{◌≡◌};
 ghost use Rattle.asking.specs.Instants.{instant_of, spelled_on, instant_in};
 
-#[derive(Drop)]
+#[derive(Clone, Copy)]
 pub enum Instant {
     At(u32),
     Misspelled,
@@ -12,7 +12,7 @@ pub enum Instant {
 }
 
 // What the bytes so far spell.
-#[derive(Drop)]
+#[derive(Clone, Copy)]
 pub enum Spelled {
     Nothing,
     Zero,

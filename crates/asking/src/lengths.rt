@@ -7,7 +7,7 @@ use table::Table;
 
 // How many there are, where one past the limit stands for all that are more; whether one is no number, or was not handed over; and the
 // first of them.
-#[derive(Drop)]
+#[derive(Clone, Copy)]
 pub struct Lengths {
     pub count: usize,
     pub misspelled: bool,

@@ -1,4 +1,6 @@
 // What the program's arguments ask, as functions of their bytes.
+#![tactic(auto)]
+
 mod arguments;
 mod files;
 mod instants;

@@ -9,7 +9,7 @@ use crate::outputs::output_asked;
 use crate::plains::plain_asked_by;
 use scanning::Found;
 
-#[derive(Drop)]
+#[derive(Clone, Copy)]
 pub enum Question {
     Report,
     Row(u32),
@@ -18,7 +18,7 @@ pub enum Question {
     PlainRow(u32),
 }
 
-#[derive(Drop)]
+#[derive(Clone, Copy)]
 pub enum Asked {
     Answer(Question),
     // what is left of a text, or the list of what was changed

@@ -11,7 +11,7 @@ use table::Table;
 
 // Number, line and column 0, with as many answers as tables; or a refusal's own, with none. The answers past the count are all zeros.
 #[repr(C)]
-#[derive(Drop)]
+#[derive(Clone, Copy)]
 pub struct PhalandrixBatch {
     pub number: u32,
     pub line: u32,

@@ -1,4 +1,6 @@
 // Several tables in one call (R-1), from Rattle and from C.
+#![tactic(auto)]
+
 mod exports;
 mod lengths;
 mod shares;

@@ -1,5 +1,7 @@
 // The server jobs that run: the best, then the best after it, and so on (rule 5). Nothing is laid out but each server's own head: the key
 // of its first ready server job that is not chosen yet. Each function computes what the definition of its name in window/specs says.
+#![tactic(auto)]
+
 ghost use Rattle.std.specs.Prelude.{◌≡◌, ◌≤◌};
 ghost use Rattle.schedule.specs.Limits as Limits;
 ghost use Rattle.window.specs.Entries.{places};

@@ -1,5 +1,7 @@
 // The states of two boundaries, compared number by number and window by window; what is kept of one. Each function computes what the
 // definition of its name in window/specs says.
+#![tactic(auto)]
+
 ghost use Rattle.std.specs.Prelude.{◌≡◌, ◌+◌, ◌*◌, ◌≤◌};
 ghost use Rattle.window.specs.Entries.{places, window, slots};
 ghost use Rattle.window.specs.Comparing as Mirror;

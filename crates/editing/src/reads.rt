@@ -13,7 +13,7 @@ use rules::Answer;
 use table::Table;
 
 // A table in memory, all zeros past its counts; on a refusal all zeros.
-#[derive(Drop)]
+#[derive(Clone, Copy)]
 pub struct ReadTable {
     pub table: PhalandrixTable,
     pub judged: Judged,

@@ -14,7 +14,7 @@ use sheet::{PhalandrixAnswer, told};
 
 // 0, 0 and 0 with the table; or a refusal's number, line and column with a table of zeros.
 #[repr(C)]
-#[derive(Drop)]
+#[derive(Clone, Copy)]
 pub struct PhalandrixReading {
     pub number: u32,
     pub line: u32,

@@ -1,5 +1,7 @@
 // A server job whose budget is used up is dropped, and its window shifted; one server at a time. Each function computes what the definition of
 // its name in window/specs says.
+#![tactic(auto)]
+
 ghost use Rattle.std.specs.Prelude.{◌≡◌, ◌+◌, ◌*◌, ◌-◌, ◌≤◌, ◌<◌, max, get_or, set};
 ghost use Rattle.window.specs.Entries.{places, window, slots};
 ghost use Rattle.window.specs.Finishing as Mirror;

@@ -31,8 +31,8 @@ pub data Outcome (A : Type 0) : Type 0 where
   done : A → Place → Outcome A
 
 module _ {A B : Type 0} where
-  infixl 20 ◌and-then◌
-  abbrev pub ◌and-then◌ : Outcome A → (A → Place → Outcome B) → Outcome B
+  infixl 20 ◌and_then◌
+  abbrev pub ◌and_then◌ : Outcome A → (A → Place → Outcome B) → Outcome B
   (refused r) and_then f = refused r
   (done a p) and_then f = f a p
 

@@ -1,8 +1,10 @@
 // The text of a table, and reading it: specs/. This crate has no code.
 
+#![tactic(auto)]
+
 // The refusals of document 01, and after them those of document 02's requests. `number_of`, `line_of` and `column_of` of specs/Refusals.antt
 // give the number, the line and the column of each.
-#[derive(Drop)]
+#[derive(Clone, Copy)]
 pub enum Refusal {
     TooLong,
     Misspelled { line: u32, column: u32 },

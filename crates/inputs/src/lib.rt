@@ -1,4 +1,6 @@
 // Reading an input, and tables out of one.
+#![tactic(auto)]
+
 mod reading;
 mod taking;
 

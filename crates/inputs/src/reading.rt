@@ -6,7 +6,7 @@ ghost use Rattle.inputs.specs.Inputs.{after_read, Read, input_after, Further, Wi
 pub const PIECE: usize = 512;
 
 // What one read comes to: so many bytes more, the end, or a failure.
-#[derive(Drop)]
+#[derive(Clone, Copy)]
 pub enum Reading {
     More(usize),
     Ended,
@@ -14,21 +14,21 @@ pub enum Reading {
 }
 
 // An input, as far as there is room for it.
-#[derive(Drop)]
+#[derive(Clone, Copy)]
 pub enum Input {
     Bytes(usize),
     Failed,
 }
 
 // Reading goes on behind so many bytes more, or is over.
-#[derive(Drop)]
+#[derive(Clone, Copy)]
 pub enum Progress {
     On(usize),
     Over(Input),
 }
 
 // So many bytes of an input: they are there; they are not, or more follow; or a read has failed.
-#[derive(Drop)]
+#[derive(Clone, Copy)]
 pub enum Taken {
     Whole,
     Wrong,

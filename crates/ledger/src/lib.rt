@@ -1,11 +1,13 @@
 // What the plain engine knows at an instant, in absolute numbers, and the state that it forms of this at a boundary. This crate has no code:
 // specs/ says what each function of the plain engine computes, and proofs/ that this is the schedule of the rules.
+#![tactic(auto)]
+
 use table::Table;
 
 // By the place of a node's server: how many server jobs, and so invocations, are released; how many server jobs are complete, which are the
 // first ones; how many jobs are linked, and how many finished; and the largest response of its jobs so far. Of each pending server job, at the
 // slot of its number: the ticks that it has used, and the number of the job linked to it, 0 for none. (Its deadline is rule 1's.)
-#[derive(Drop)]
+#[derive(Clone, Copy)]
 pub struct Ledger {
     pub released: [u32; Table::SERVERS],
     pub complete: [u32; Table::SERVERS],
@@ -19,7 +21,7 @@ pub struct Ledger {
 // Document 01's state. By place: the phase of the node's graph in its period; invocations released less jobs finished; invocations released
 // less jobs linked; how many server jobs are pending. Of the pending server jobs in order, at place × ROOM + position: the budget left; and 0
 // for an unlinked one, else one more than by how many numbers the job lies behind its server job.
-#[derive(Drop)]
+#[derive(Clone, Copy)]
 pub struct Formed {
     pub phase: [u32; Table::SERVERS],
     pub unfinished: [u32; Table::SERVERS],
@@ -30,7 +32,7 @@ pub struct Formed {
 }
 
 // Of one server: how many server jobs are complete, how many jobs are finished, and their largest response.
-#[derive(Drop)]
+#[derive(Clone, Copy)]
 pub struct Done {
     pub complete: u32,
     pub finished: u32,
@@ -38,14 +40,14 @@ pub struct Done {
 }
 
 // A server job: its server's place, and its number, 0 for none.
-#[derive(Drop)]
+#[derive(Clone, Copy)]
 pub struct Found {
     pub place: usize,
     pub number: u32,
 }
 
 // How a walk ended: in one of document 01's three ways, settled with its round; or at the instant asked, before any of them.
-#[derive(Drop)]
+#[derive(Clone, Copy)]
 pub enum How {
     Settled(u32),
     Unsettled,
@@ -54,7 +56,7 @@ pub enum How {
 }
 
 // How, at which instant, and what is known there: before the releases of that instant at a boundary, after them otherwise.
-#[derive(Drop)]
+#[derive(Clone, Copy)]
 pub struct Walk {
     pub how: How,
     pub ticks: u32,

@@ -16,7 +16,7 @@ use Rattle.format.specs.Keys.{key_at}
 use Rattle.schedule.specs.Lists.{all?}
 use Rattle.format.specs.Spelling.{Scan, read, wrong, number, list, heading, line}
 use Rattle.schedule.specs.WellFormed.{within, rising, orderly}
-use Rattle.format.specs.Reading.{Place, Outcome, refused, done, ◌and-then◌, column_at, judged, value_column, value_in, number_line, offending, after_line}
+use Rattle.format.specs.Reading.{Place, Outcome, refused, done, ◌and_then◌, column_at, judged, value_column, value_in, number_line, offending, after_line}
 use Rattle.theorems.proofs.Formed.{first_of_lem, second_of}
 use Rattle.rules.proofs.Outcomes.{Holds, then_holds, number_line_holds, after_line_holds}
 use Rattle.schedule.proofs.Tests.{by_test}

@@ -3,7 +3,7 @@ use Rattle.std.specs.Prelude.{cond, List, ℕ, ◌+◌, eqb, drop}
 use Rattle.format.specs.declared.Refusal.{Refusal}
 use Rattle.format.specs.declared.Refusal.TheVariants.{Misspelled, OutsideLimits, AgainstPredecessorRules}
 use Rattle.format.specs.Keys as Keys
-use Rattle.format.specs.Reading.{Place, column_at, Outcome, refused, done, ◌and-then◌, number_line, after_line}
+use Rattle.format.specs.Reading.{Place, column_at, Outcome, refused, done, ◌and_then◌, number_line, after_line}
 use Rattle.scanning.specs.Masks.{mask_of}
 use Rattle.lines.specs.declared.judging.Line.{Line}
 use Rattle.lines.specs.declared.judging.Line.TheVariants as Line

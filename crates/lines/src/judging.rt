@@ -26,7 +26,7 @@ pub const LIMIT: usize = 9;
 
 // A line's value, a number or a mask, and the position after the line; where its spelling goes wrong; or that its value is outside its
 // limits or against the predecessor rules, and the position of what is at fault.
-#[derive(Drop)]
+#[derive(Clone, Copy)]
 pub enum Line {
     Value(u32, usize),
     Misspelled(usize),
@@ -34,7 +34,7 @@ pub enum Line {
 }
 
 // Three lines, one after another.
-#[derive(Drop)]
+#[derive(Clone, Copy)]
 pub struct ThreeLines {
     pub first: Line,
     pub second: Line,

@@ -1,4 +1,6 @@
 // Lines: the expected key, a value, LF, each judged; the reader that goes from line to line of a lent text; and lines with their numbers.
+#![tactic(auto)]
+
 mod judging;
 mod numbering;
 mod reader;

@@ -10,27 +10,27 @@ use crate::reader::{line_at, three_lines};
 use format::Refusal;
 
 // Where reading stands: the number of the next line, and its position.
-#[derive(Drop)]
+#[derive(Clone, Copy)]
 pub struct Place {
     pub line: u32,
     pub at: usize,
 }
 
-#[derive(Drop)]
+#[derive(Clone, Copy)]
 pub enum LineRead {
     Value(u32, Place),
     Refused(Refusal),
 }
 
 // The values of three lines.
-#[derive(Drop)]
+#[derive(Clone, Copy)]
 pub struct Three {
     pub first: u32,
     pub second: u32,
     pub third: u32,
 }
 
-#[derive(Drop)]
+#[derive(Clone, Copy)]
 pub enum ThreeRead {
     Values(Three, Place),
     Refused(Refusal),

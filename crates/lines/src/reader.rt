@@ -6,7 +6,7 @@ ghost use Rattle.lines.specs.Lines.{line_judged, judged_of, after, JudgedAt, Thr
 
 use crate::judging::{Line, ThreeLines, line_from, past, three_of};
 
-#[derive(Drop)]
+#[derive(Clone, Copy)]
 pub struct Lines<'a> {
     pub table: &'a [u8],
     pub at: usize,

@@ -1,16 +1,18 @@
 // What a walk to an instant shows: how it ended, when, and the row there. A row call is made of one such look, and past the stop of a settled
 // walk of a second. Either engine gives them. This crate has no code: specs/ says what is made of them, and proofs/ that it is the rules' row.
+#![tactic(auto)]
+
 use writing::Row;
 
 // At the instant asked; or, at or before it, at the stop of a walk that settled, or of one that did not.
-#[derive(Drop)]
+#[derive(Clone, Copy)]
 pub enum End {
     Reached,
     Settled,
     Stopped,
 }
 
-#[derive(Drop)]
+#[derive(Clone, Copy)]
 pub struct Look {
     pub end: End,
     pub ticks: u32,

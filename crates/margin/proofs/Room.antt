@@ -17,7 +17,7 @@ use Rattle.theorems.proofs.Formed.{within_limits}
 use Rattle.format.specs.Bytes.{bytes, line_feed, decimal}
 use Rattle.format.specs.Keys as Keys
 use Rattle.format.specs.Keys.{keys}
-use Rattle.format.specs.Reading.{Place, Outcome, refused, done, ◌and-then◌, number_line, ended}
+use Rattle.format.specs.Reading.{Place, Outcome, refused, done, ◌and_then◌, number_line, ended}
 use Rattle.rules.specs.Admission as Admission
 use Rattle.rules.specs.Admission.{Admission, admitted, admission_of}
 use Rattle.rules.specs.Answers.{answer_line, says, refuses}

@@ -17,7 +17,7 @@ use table::{Graph, Table};
 use window::{How, Walk};
 
 // The answer, and whether its line and column stand in the limit text.
-#[derive(Drop)]
+#[derive(Clone, Copy)]
 pub struct MarginAnswer {
     pub answer: Answer,
     pub in_limits: bool,

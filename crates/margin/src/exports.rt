@@ -8,7 +8,7 @@ use crate::answering::{MarginAnswer, margin};
 
 // 0, 0 and 0 with the text's length; or a refusal's number, line and column with length 0. `in_limits` is 1 where the refusal is of the limit text, and 0 else.
 #[repr(C)]
-#[derive(Drop)]
+#[derive(Clone, Copy)]
 pub struct PhalandrixMargin {
     pub number: u32,
     pub line: u32,

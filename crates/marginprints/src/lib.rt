@@ -1,4 +1,6 @@
 // What the program prints of a table and its limits (R-12).
+#![tactic(auto)]
+
 ghost use Rattle.std.specs.Prelude.{◌≡◌, List, ℕ, ◌≤◌, ◌<◌, length};
 ghost use Rattle.schedule.specs.Limits.{table_bytes, limit_bytes};
 ghost use Rattle.margins.specs.Margins.{margin_of};
@@ -9,7 +11,7 @@ ghost use Rattle.marginprints.specs.Printed.{PrintedAs};
 use rules::Answer;
 
 // The length of what is printed, and whether it is a refusal of the limit text, so that people can be told.
-#[derive(Drop)]
+#[derive(Clone, Copy)]
 pub struct MarginPrinted {
     pub length: usize,
     pub in_limits: bool,

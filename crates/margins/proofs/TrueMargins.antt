@@ -21,7 +21,7 @@ use Rattle.theorems.proofs.LeastTrue.{figures_are_least_true}
 use Rattle.format.specs.declared.Refusal.{Refusal}
 use Rattle.format.specs.declared.Refusal.TheVariants.{TooLong}
 use Rattle.format.specs.Keys as Keys
-use Rattle.format.specs.Reading.{Place, Outcome, refused, done, ◌and-then◌, number_line, ended}
+use Rattle.format.specs.Reading.{Place, Outcome, refused, done, ◌and_then◌, number_line, ended}
 use Rattle.rules.specs.AnswerNumbers.{answer_number}
 use Rattle.rules.specs.Admission as Admission
 use Rattle.rules.specs.Admission.{Admission, admitted, admission_of}

@@ -6,7 +6,7 @@ use Rattle.format.specs.declared.Refusal.{Refusal}
 use Rattle.format.specs.declared.Refusal.TheVariants.{TooLong, Backlog, Unsettled}
 use Rattle.format.specs.Bytes.{bytes, line_feed, equals, decimal}
 use Rattle.format.specs.Keys as Keys
-use Rattle.format.specs.Reading.{Place, Outcome, refused, done, ◌and-then◌, number_line, ended}
+use Rattle.format.specs.Reading.{Place, Outcome, refused, done, ◌and_then◌, number_line, ended}
 use Rattle.schedule.specs.Limits as Limits
 use Rattle.schedule.specs.Servers.{Box, box_of}
 use Rattle.schedule.specs.Walk.{Stop, settled, unsettled, backlog, Walked, whole_walk}

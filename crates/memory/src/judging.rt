@@ -19,7 +19,7 @@ const LINES: u32 = 3;
 // The writer has no bytes to point at.
 const NO_COLUMN: u32 = 0;
 
-#[derive(Drop)]
+#[derive(Clone, Copy)]
 pub enum Judged {
     Passes,
     Refused(Refusal),

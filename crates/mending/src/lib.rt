@@ -1,5 +1,7 @@
 // A spoiled line, byte by byte: what is known of it, what each byte adds to the text that is left, the kinds of change, and their lines of the
 // list; measured, and written in a lent part of a buffer.
+#![tactic(auto)]
+
 mod fixes;
 mod line;
 mod place;

@@ -10,7 +10,7 @@ pub const BLANK: u8 = b' ';
 
 // The place after the last byte that is no blank, the blanks since then, and whether the line has had a carriage return, a byte that is kept,
 // and a zero that went.
-#[derive(Drop)]
+#[derive(Clone, Copy)]
 pub struct Line {
     pub place: Place,
     pub blanks: usize,
@@ -20,7 +20,7 @@ pub struct Line {
 }
 
 // What a byte adds to the text: the zero that was held, the blanks before the byte, and the byte itself.
-#[derive(Drop)]
+#[derive(Clone, Copy)]
 pub struct Added {
     pub zero: bool,
     pub blanks: usize,
@@ -28,7 +28,7 @@ pub struct Added {
 }
 
 // The kinds of change, in their order.
-#[derive(Drop)]
+#[derive(Clone, Copy)]
 pub struct Kinds {
     pub returns: bool,
     pub blanks: bool,

@@ -5,7 +5,7 @@ ghost use Rattle.mending.specs.Place as Places;
 
 // Before the line's first `=`; after it, in no run of digits; in a run of which a digit is kept; after a zero that is held, at the start of a
 // run, until it is known whether another digit follows.
-#[derive(Drop)]
+#[derive(Clone, Copy)]
 pub enum Place {
     Key,
     Outside,

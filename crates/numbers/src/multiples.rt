@@ -4,7 +4,7 @@ ghost use Rattle.schedule.specs.Table as Rules;
 ghost use Rattle.numbers.specs.Multiples.{multiple_within};
 
 // A multiple that is at most a bound; or one past it.
-#[derive(Drop)]
+#[derive(Clone, Copy)]
 pub enum Multiple {
     Within(u32),
     Past,

@@ -2,6 +2,8 @@
 // read and written again. With `plain` and with `plain row T`, report and row by the plain engine. With `batch` and lengths, tables end to end
 // on standard input, and what is printed for each. With `salvage` the text is mended, and what is left is printed; with `fixes` the list of
 // what was changed. With `margin FILE` the margins against the limits in the file are printed.
+#![tactic(auto)]
+
 ghost use Rattle.std.specs.Prelude.{◌≤◌, ◌<◌, length};
 ghost use Rattle.schedule.specs.Limits as Limits;
 
@@ -23,7 +25,7 @@ const TEXT_ROOM: usize = Table::TABLE_BYTES_TO as usize;
 const TURNS: u32 = 0xffff_ffff;
 
 // One piece more of the command line.
-#[derive(Drop)]
+#[derive(Clone, Copy)]
 enum Line {
     More(Passed),
     Ended,

@@ -1,4 +1,6 @@
 // The walk of document 01, tick by tick: from what it needs of an admitted table to its stop, or to an instant asked before it.
+#![tactic(auto)]
+
 ghost use Rattle.std.specs.Prelude.{◌≡◌, ◌+◌, ◌*◌, ◌≤◌};
 ghost use Rattle.schedule.specs.Limits as Limits;
 ghost use Rattle.ledger.specs.Walking as Mirror;

@@ -10,7 +10,7 @@ use table::{Graph, Node, Table};
 use window::Plan;
 
 // What the plan has at a place.
-#[derive(Drop)]
+#[derive(Clone, Copy)]
 pub struct Entry {
     pub budget: u16,
     pub after: u32,

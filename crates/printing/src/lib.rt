@@ -1,4 +1,6 @@
 // What the program prints: for a question about a table, and for several tables.
+#![tactic(auto)]
+
 mod answering;
 mod batching;
 

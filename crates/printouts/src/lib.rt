@@ -1,4 +1,6 @@
 // What the program prints of a text to mend: what is left of it, or the list of what was changed.
+#![tactic(auto)]
+
 ghost use Rattle.std.specs.Prelude.{◌≡◌, List, ℕ, ◌≤◌, ◌<◌, length, take};
 ghost use Rattle.schedule.specs.Limits.{table_bytes};
 ghost use Rattle.rules.specs.Answers.{printed};
@@ -10,7 +12,7 @@ ghost use Rattle.printouts.specs.Outputs.{output_of};
 use salvaging::SalvageAnswer;
 
 // What is left of a text, or the list of what was changed.
-#[derive(Drop)]
+#[derive(Clone, Copy)]
 pub enum Output {
     Text,
     Fixes,

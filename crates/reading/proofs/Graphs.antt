@@ -13,7 +13,7 @@ use Rattle.schedule.specs.Limits as Limits
 use Rattle.format.specs.Keys as Keys
 use Rattle.schedule.specs.Table.{Node, Graph}
 use Rattle.schedule.specs.WellFormed.{within, all_followed, nodes_formed}
-use Rattle.format.specs.Reading.{Place, first_column, Outcome, refused, done, ◌and-then◌, value_column, number_line, nodes_from, graph_nodes, graph, graphs_from, ended, table}
+use Rattle.format.specs.Reading.{Place, first_column, Outcome, refused, done, ◌and_then◌, value_column, number_line, nodes_from, graph_nodes, graph, graphs_from, ended, table}
 use Rattle.rules.proofs.Outcomes.{Holds, number_line_holds}
 use Rattle.schedule.proofs.Tests.{by_test}
 use Rattle.numbers.specs.Masks.{unset_below}

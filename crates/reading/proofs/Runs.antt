@@ -9,7 +9,7 @@ use lib.ListN.{set}
 use Rattle.format.specs.declared.Refusal.{Refusal}
 use Rattle.format.specs.Keys as Keys
 use Rattle.schedule.specs.Table.{Node}
-use Rattle.format.specs.Reading.{Place, Outcome, refused, done, ◌and-then◌, number_line, after_line, node, nodes_from}
+use Rattle.format.specs.Reading.{Place, Outcome, refused, done, ◌and_then◌, number_line, after_line, node, nodes_from}
 use Rattle.table.specs.declared.Node.{Node as Row}
 use Rattle.scanning.specs.Masks.{mask_of}
 use Rattle.lines.specs.declared.numbering.Three.{Three}

@@ -1,7 +1,7 @@
 // The lines one after another: three for a table's head, for a graph's and for each node; then the table, or refusal 1 to 4.
 ghost use Rattle.std.specs.Prelude.{◌≡◌, ◌+◌, ◌-◌, ◌*◌, ◌^◌, ◌<◌, ◌≤◌, length};
 ghost use Rattle.schedule.specs.Limits as Limits;
-ghost use Rattle.format.specs.Reading.{◌and-then◌, node, nodes_from, graph_nodes, graph, graphs_from, ended, read_of};
+ghost use Rattle.format.specs.Reading.{◌and_then◌, node, nodes_from, graph_nodes, graph, graphs_from, ended, read_of};
 ghost use Rattle.reading.specs.Memory.{coded_node, with_graph, with_graphs, memory_of};
 ghost use Rattle.lines.specs.Numbered.{map_outcome, place_of, coded_line, line_read_of, three_lines, three_read_of};
 ghost use Rattle.reading.specs.Outcomes.{node_read_of, taken, nodes_read_of, added_graph, ended_graph, table_read_of};
@@ -13,28 +13,28 @@ use lines::{
 };
 use table::{Graph, Node, Table};
 
-#[derive(Drop)]
+#[derive(Clone, Copy)]
 pub enum NodeRead {
     One(Node, Place),
     Refused(Refusal),
 }
 
 // How a run of lines ended: at a place, or with a refusal. What was read stands beside it.
-#[derive(Drop)]
+#[derive(Clone, Copy)]
 pub enum End {
     At(Place),
     Refused(Refusal),
 }
 
 // `named` are the predecessors that some node's list has.
-#[derive(Drop)]
+#[derive(Clone, Copy)]
 pub struct NodesRead {
     pub nodes: [Node; Table::SERVERS],
     pub named: u32,
     pub end: End,
 }
 
-#[derive(Drop)]
+#[derive(Clone, Copy)]
 pub struct TableRead {
     pub table: Table,
     pub end: End,

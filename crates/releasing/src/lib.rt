@@ -1,5 +1,7 @@
 // Release and link at an instant, over lent arrays of numbers and one server at a time. Each function computes what the definition of the
 // same name in window/specs says.
+#![tactic(auto)]
+
 mod due;
 mod entering;
 mod instants;

@@ -8,7 +8,7 @@ use Rattle.format.specs.Keys.{key_at}
 use Rattle.format.specs.Keys as Keys
 use Rattle.format.specs.Spelling.{Scan, read, wrong, number, list, line}
 use Rattle.schedule.specs.WellFormed.{within, orderly}
-use Rattle.format.specs.Reading.{Place, Outcome, refused, done, ◌and-then◌, column_at, judged, value_column, value_in, number_line, offending, after_line}
+use Rattle.format.specs.Reading.{Place, Outcome, refused, done, ◌and_then◌, column_at, judged, value_column, value_in, number_line, offending, after_line}
 use Rattle.schedule.proofs.Tests.{by_test}
 
 module _ {A : Type 0} where

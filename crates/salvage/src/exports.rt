@@ -8,7 +8,7 @@ use salvaging::SalvageAnswer;
 
 // 0, 0 and 0 with the lengths of the text and of the list; or a refusal's number, line and column with lengths 0.
 #[repr(C)]
-#[derive(Drop)]
+#[derive(Clone, Copy)]
 pub struct PhalandrixSalvage {
     pub number: u32,
     pub line: u32,

@@ -21,7 +21,7 @@ const FIX_BYTES: usize = 11;
 // No list is longer: each byte is the cause of one line of it at most, and the end of the last line of one more.
 pub const LIST_BYTES: usize = FIX_BYTES * (Table::TABLE_BYTES_TO as usize + 1);
 
-#[derive(Drop)]
+#[derive(Clone, Copy)]
 pub struct Lengths {
     pub text: usize,
     pub list: usize,

@@ -1,4 +1,6 @@
 // Scanners over lent bytes: fixed text, a byte, a number, a list of predecessors.
+#![tactic(auto)]
+
 mod lists;
 mod scanners;
 

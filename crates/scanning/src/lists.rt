@@ -9,7 +9,7 @@ use crate::scanners::{Found, Scanned, next_is, number_at, text_at};
 use table::Range;
 
 // What is known of a list so far: bit p - 1 of the mask for each predecessor p, the last number, and whether all keep the rules.
-#[derive(Drop)]
+#[derive(Clone, Copy)]
 pub struct Listing {
     pub mask: u32,
     pub last: u32,
@@ -17,7 +17,7 @@ pub struct Listing {
 }
 
 // A list and the position after it, or where it goes wrong.
-#[derive(Drop)]
+#[derive(Clone, Copy)]
 pub enum Listed {
     List(Listing, usize),
     Wrong(usize),

@@ -9,14 +9,14 @@ ghost use Rattle.scanning.specs.Positions.{found_of, scanned_of, far, capped};
 use table::Table;
 
 // A fixed text: the position after it, or where it goes wrong.
-#[derive(Drop)]
+#[derive(Clone, Copy)]
 pub enum Found {
     After(usize),
     Wrong(usize),
 }
 
 // A number and the position after it, or where it goes wrong.
-#[derive(Drop)]
+#[derive(Clone, Copy)]
 pub enum Scanned {
     Number(u32, usize),
     Wrong(usize),

@@ -10,7 +10,7 @@ use rules::{Answer, RowAnswer};
 
 // Document 01's number and line, document 02's column, and the text's length: 0, 0 and 0 with the length; or a refusal's own with length 0.
 #[repr(C)]
-#[derive(Drop)]
+#[derive(Clone, Copy)]
 pub struct PhalandrixAnswer {
     pub number: u32,
     pub line: u32,
@@ -20,7 +20,7 @@ pub struct PhalandrixAnswer {
 
 // The same of a row, with the ticks walked for it: 0 with a refusal.
 #[repr(C)]
-#[derive(Drop)]
+#[derive(Clone, Copy)]
 pub struct PhalandrixRowAnswer {
     pub number: u32,
     pub line: u32,

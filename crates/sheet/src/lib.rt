@@ -1,4 +1,6 @@
 // The public calls: the report of a table, and its row at an instant; from Rattle, and from C.
+#![tactic(auto)]
+
 mod exports;
 mod figures;
 mod plans;

@@ -9,7 +9,7 @@ use table::{Graph, Table};
 use window::Plan;
 
 // What the walk asks for, the graphs for the figures, and whether the table passed. Of a refused one it is what the empty table has.
-#[derive(Drop)]
+#[derive(Clone, Copy)]
 pub struct Laid {
     pub plan: Plan,
     pub offsets: [u32; Table::SERVERS],

@@ -1,5 +1,7 @@
 // A span: the server jobs that run stay the same up to the next release, boundary, instant asked or used-up budget. Each uses the span's
 // ticks, linked or not (rule 6). Each function computes what the definition of its name in window/specs says.
+#![tactic(auto)]
+
 ghost use Rattle.std.specs.Prelude.{◌≡◌, ◌-◌, ◌%◌, ◌≤◌, min};
 ghost use Rattle.schedule.specs.Limits as Limits;
 ghost use Rattle.window.specs.Entries.{slots};

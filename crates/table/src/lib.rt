@@ -1,5 +1,7 @@
 // The table in memory, with every limit of documents 01 and 02 as an associated constant; the keys; the windows that a walk keeps, with
 // the functions that make an empty server and the fresh state.
+#![tactic(auto)]
+
 ghost use Rattle.std.specs.Prelude.{◌≡◌};
 ghost use Rattle.format.specs.Keys.{key_at};
 ghost use Rattle.table.specs.Limits.{limits};
@@ -7,13 +9,13 @@ ghost use Rattle.table.specs.Keys.{coded_key};
 ghost use Rattle.table.specs.Fresh.{empty_table, empty_server, fresh_state};
 
 // From and to, both allowed.
-#[derive(Drop)]
+#[derive(Clone, Copy)]
 pub struct Range {
     pub from: u32,
     pub to: u32,
 }
 
-#[derive(Drop)]
+#[derive(Clone, Copy)]
 pub struct Limits {
     pub table_bytes: Range,
     pub processors: Range,
@@ -36,7 +38,7 @@ pub struct Limits {
 }
 
 // A key: its name, filled up with zeros, the name's length, and the limits of its number (of `after`, of each number of its list).
-#[derive(Drop)]
+#[derive(Clone, Copy)]
 pub struct Key {
     pub name: [u8; Table::NAME_LENGTH],
     pub length: usize,
@@ -44,7 +46,7 @@ pub struct Key {
 }
 
 // A node: bit p - 1 of `after` is set for each predecessor p.
-#[derive(Drop)]
+#[derive(Clone, Copy)]
 pub struct Node {
     pub budget: u32,
     pub level: u32,
@@ -52,7 +54,7 @@ pub struct Node {
 }
 
 // A graph: the place of its node 1 among the nodes of all graphs, and how many nodes it has.
-#[derive(Drop)]
+#[derive(Clone, Copy)]
 pub struct Graph {
     pub period: u32,
     pub offset: u32,
@@ -61,7 +63,7 @@ pub struct Graph {
 }
 
 // The first `graphs` of `graph` and the first `nodes` of `node` are the table's; the rest are all zeros.
-#[derive(Drop)]
+#[derive(Clone, Copy)]
 pub struct Table {
     pub processors: u32,
     pub rounds: u32,
@@ -72,14 +74,14 @@ pub struct Table {
 }
 
 // A pending server job: where it is linked, by how many numbers the job lies behind it. Its budget left stands in `State`.
-#[derive(Drop)]
+#[derive(Clone, Copy)]
 pub struct Pending {
     pub behind: u8,
     pub linked: bool,
 }
 
 // A server's window: its pending server jobs, the oldest first, shifted as the oldest complete.
-#[derive(Drop)]
+#[derive(Clone, Copy)]
 pub struct Server {
     pub jobs: [Pending; Table::WINDOW],
 }
@@ -88,7 +90,7 @@ pub struct Server {
 // of the oldest, NO_KEY where none is pending; how many are pending; the two counts of document 01's state; the largest response of its
 // jobs so far; and the instant of its next release, so that nothing has to be counted down. All but the windows stands in arrays of numbers, since those can be
 // lent, and an array of structs cannot.
-#[derive(Drop)]
+#[derive(Clone, Copy)]
 pub struct State {
     pub servers: [Server; Table::SERVERS],
     pub left: [u16; Table::SLOTS],
@@ -101,7 +103,7 @@ pub struct State {
 }
 
 // What is kept of the state at a boundary, to be compared with the next one's.
-#[derive(Drop)]
+#[derive(Clone, Copy)]
 pub struct Kept {
     pub servers: [Server; Table::SERVERS],
     pub left: [u16; Table::SLOTS],
@@ -112,7 +114,7 @@ pub struct Kept {
 }
 
 // What a report and a row show of a state.
-#[derive(Drop)]
+#[derive(Clone, Copy)]
 pub struct Seen {
     pub servers: [Server; Table::SERVERS],
     pub first: [u32; Table::SERVERS],

@@ -92,7 +92,7 @@ lcm_from_first h (G ∷ Gs) = dvd_trans h (lcm_left h G.period) (lcm_from_first 
 
 pub lcm_from_each : (h : ℕ) (Gs : List Graph) → Common Gs (lcm_from h Gs)
 unfolding lcm_from
-lcm_from_each h [] G m = absurd (Memᴰ.not_nil m)
+lcm_from_each h [] G m = absurd (Memᴰ.not-nil m)
 lcm_from_each h (G₀ ∷ Gs) G m =
     either_way (Memᴰ.cases_cons m)
     (λ e. rw e (dvd_trans G₀.period (lcm_right h G₀.period) (lcm_from_first (lcm h G₀.period) Gs)))

@@ -75,7 +75,7 @@ module _ (S : List Server) (H O : ℕ) where
     nodes_fit : (v : ℕ) (xs : List Node) → v + length xs ≤ suc total → T (nodes_formed v xs) → (s : Server) → Memᴰ s (of_nodes base g v G xs)
         → Fits S H O s
     unfolding of_nodes beside_G
-    nodes_fit v [] l t s m = absurd (Memᴰ.not_nil m)
+    nodes_fit v [] l t s m = absurd (Memᴰ.not-nil m)
     nodes_fit v (x ∷ xs) l t s m =
         let n = nodes_formed_lem v x xs t in
         either_way (Memᴰ.cases_cons m)
@@ -99,7 +99,7 @@ module _ (S : List Server) (H O : ℕ) where
   graphs_fit : (pre : List Server) (g : ℕ) (Gs : List Graph) → S ≡ pre ++ of_graphs (length pre) g Gs → ((G : Graph) → Memᴰ G Gs → GraphFits G)
       → (s : Server) → Memᴰ s (of_graphs (length pre) g Gs) → Fits S H O s
   unfolding of_graphs
-  graphs_fit pre g [] e fits s m = absurd (Memᴰ.not_nil m)
+  graphs_fit pre g [] e fits s m = absurd (Memᴰ.not-nil m)
   graphs_fit pre g (G ∷ Gs) e fits s m =
       let base = length pre in
       let on = of_nodes base g 1 G G.nodes in

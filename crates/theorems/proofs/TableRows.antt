@@ -26,13 +26,13 @@ use Rattle.theorems.proofs.AllLinked.{rows_linked}
 -- a server has its graph's number and period
 of_nodes_lem : (base g v : ℕ) (G : Graph) (xs : List Node) (s : Server) → Memᴰ s (of_nodes base g v G xs) → (s.graph ≡ g) × (s.period ≡ G.period)
 unfolding of_nodes
-of_nodes_lem base g v G [] s m = absurd (Memᴰ.not_nil m)
+of_nodes_lem base g v G [] s m = absurd (Memᴰ.not-nil m)
 of_nodes_lem base g v G (x ∷ xs) s m = either_way (Memᴰ.cases_cons m) (λ e. rw e (refl, refl)) (λ m. of_nodes_lem base g (suc v) G xs s m)
 
 of_graphs_lem : (base g : ℕ) (Gs : List Graph) (s : Server) → Memᴰ s (of_graphs base g Gs)
     → (g ≤ s.graph) × ((get_or Gs (s.graph - g) no_graph).period ≡ s.period)
 unfolding of_graphs
-of_graphs_lem base g [] s m = absurd (Memᴰ.not_nil m)
+of_graphs_lem base g [] s m = absurd (Memᴰ.not-nil m)
 of_graphs_lem base g (G ∷ Gs) s m =
     either_way (Memᴰ.append_cases (of_nodes base g 1 G G.nodes) m)
     (λ m.

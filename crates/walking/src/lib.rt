@@ -1,4 +1,6 @@
 // The walk: from what it needs of an admitted table to its stop, or to an instant asked before it. It goes from event to event.
+#![tactic(auto)]
+
 ghost use Rattle.std.specs.Prelude.{◌≡◌, ◌+◌, ◌*◌, ◌≤◌};
 ghost use Rattle.schedule.specs.Limits as Limits;
 ghost use Rattle.window.specs.Walking as Mirror;

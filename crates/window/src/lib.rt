@@ -1,12 +1,14 @@
 // What a walk needs of a table, laid out by the places of its servers, and how it ends. This crate has no code: specs/ says
 // what each function of the engine computes, and proofs/ that this is the schedule of the rules.
+#![tactic(auto)]
+
 use table::{Seen, Table};
 
 // By place: the node's budget; its predecessors, bit p for the node at place p; its level; its graph's period; how far the keys of two server
 // jobs in a row lie apart, period × SERVERS; what a key is above its release × SERVERS, point × SERVERS + place; how many unfinished jobs make a
 // backlog of one release more (UNFINISHED for a sink, more than a node can have elsewhere); and the numbers of its graph and of itself in
 // the graph, for the row. Numbers only, so that each array can be lent.
-#[derive(Drop)]
+#[derive(Clone, Copy)]
 pub struct Plan {
     pub processors: usize,
     pub nodes: usize,
@@ -22,7 +24,7 @@ pub struct Plan {
 }
 
 // How a walk ended: in one of document 01's three ways, settled with its round; or at the instant asked, before any of them.
-#[derive(Drop)]
+#[derive(Clone, Copy)]
 pub enum How {
     Settled(u32),
     Unsettled,
@@ -32,7 +34,7 @@ pub enum How {
 
 // How, at which instant, and what is shown of the state there: before the releases of that instant, but after them where the walk ended at
 // the instant asked.
-#[derive(Drop)]
+#[derive(Clone, Copy)]
 pub struct Walk {
     pub how: How,
     pub ticks: u32,

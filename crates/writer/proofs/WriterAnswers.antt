@@ -17,7 +17,7 @@ use Rattle.format.specs.Refusals.{number_of, line_of, column_of}
 use Rattle.format.specs.Keys as Keys
 use Rattle.format.specs.Keys.{key_at}
 use Rattle.format.specs.Spelling.{number, list}
-use Rattle.format.specs.Reading.{Place, Outcome, refused, done, ◌and-then◌, number_line, after_line, node, nodes_from, graph_nodes, graph, graphs_from, ended, table, read_of}
+use Rattle.format.specs.Reading.{Place, Outcome, refused, done, ◌and_then◌, number_line, after_line, node, nodes_from, graph_nodes, graph, graphs_from, ended, table, read_of}
 use Rattle.format.proofs.ReadBack.{number_read_back}
 use Rattle.rules.specs.Answers.{Reply, says, refuses}
 use Rattle.rules.proofs.Outcomes.{told}

@@ -1,5 +1,7 @@
 // The text of an answer, written into a buffer that the caller lends. Each writer is lent the part of the buffer from the current end
 // onward, writes its text at the start of that part and only there, and tells the text's length.
+#![tactic(auto)]
+
 mod line;
 mod number;
 mod refusal;

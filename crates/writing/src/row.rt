@@ -11,7 +11,7 @@ use crate::number::digits;
 use table::Table;
 
 // A running server job; `invocation` is 0 for an unlinked one.
-#[derive(Drop)]
+#[derive(Clone, Copy)]
 pub struct Run {
     pub graph: u32,
     pub node: u32,
@@ -20,7 +20,7 @@ pub struct Run {
 }
 
 // The first `count` of `run` run.
-#[derive(Drop)]
+#[derive(Clone, Copy)]
 pub struct Row {
     pub run: [Run; Table::RUNNING],
     pub count: usize,

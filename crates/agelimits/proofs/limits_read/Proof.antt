@@ -7,7 +7,7 @@ use lib.ListN.{length}
 use borrow.Author.Rules.{rules}
 use borrow.Author.Tests.{le-leb, lt-leb}
 use Rattle.schedule.specs.Limits as Limits
-use Rattle.format.specs.Reading.{Outcome, ◌and-then◌, ended}
+use Rattle.format.specs.Reading.{Outcome, ◌and_then◌, ended}
 use Rattle.margins.specs.Margins.{limits_of}
 use Rattle.agelimits.proofs.limits_read.Statement.{statement}
 use Rattle.agelimits.proofs.limits_read.Tie as tie

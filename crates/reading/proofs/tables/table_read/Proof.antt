@@ -10,7 +10,7 @@ use Rattle.rules.proofs.Outcomes.{told}
 use Rattle.format.specs.Keys as Keys
 use Rattle.format.specs.Keys.{keys}
 use Rattle.schedule.specs.Limits as Limits
-use Rattle.format.specs.Reading.{Place, Outcome, ◌and-then◌, graphs_from, ended, read_of}
+use Rattle.format.specs.Reading.{Place, Outcome, ◌and_then◌, graphs_from, ended, read_of}
 use Rattle.table.specs.declared.Table.{Table as Memory}
 use Rattle.reading.specs.Memory.{with_graphs}
 use Rattle.lines.specs.Numbered.{map_outcome, place_of, three_read_of}
