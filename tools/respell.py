@@ -18,6 +18,8 @@ NAME = r'[^\s(){}.;,@"«»`]+'
 DECLARED = re.compile(rf"(?m)^ *(?:pub |abbrev |unfoldable |unfolding |package )*({NAME})(?: \{{[^{{}}\n]*\}})* :(?= |$)")
 TOKEN = re.compile(rf'(?<![^\s(){{}}.;,@"«»`])({NAME})(?![^\s(){{}}.;,@"«»`])')
 OF_A_FUNCTION = re.compile(r"/proofs/[^/]+/")
+# Lemmas that a library has under the same name; files import either.
+OF_A_LIBRARY = {"and-false", "or-false", "or-true"}
 # Definitions that port.py respelled in some files by themselves.
 BY_HAND = {"getD-mem": "get_or_mem", "getD-tab": "get_or_tab", "getD-tab-out": "get_or_tab_out"}
 
@@ -54,6 +56,7 @@ def table(root):
         (local if OF_A_FUNCTION.search(path) else declared).update(DECLARED.findall(code))
         # A step of a path, as a function's module, takes no name away.
         tokens.update(TOKEN.findall(re.sub(rf"\.(?:{NAME})|\b{NAME}\.", " ", re.sub(r"(?m)^use [^{\n]*", "", code))))
+    declared -= OF_A_LIBRARY
     odd = [n for n in declared if n[0].islower() and (re.search(r"[a-z0-9][A-Z]", n) or "-" in n)]
     # What a library's module is called, or a path of a function, is no name of ours.
     new, taken = {}, {t for t in tokens if t not in odd}
@@ -74,6 +77,8 @@ def main(root):
         for old, to in sorted(new.items()):
             print(old, to)
         return
+    # An operator's name is used in full where it is declared and imported, and in part between its arguments.
+    new |= {"◌and-then◌": "◌and_then◌", "and-then": "and_then"}
     put = lambda text: TOKEN.sub(lambda m: new.get(m[1], m[1]), text)
     camel = {o: t for o, t in new.items() if "-" not in o}
     camel_put = lambda text: TOKEN.sub(lambda m: camel.get(m[1], m[1]), text)

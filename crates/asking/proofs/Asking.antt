@@ -77,15 +77,15 @@ or_none : (b : Bool) → b ≡ (b || false)
 or_none true = refl
 or_none false = refl
 
-or_true : (b : Bool) → true ≡ (b || true)
-or_true true = refl
-or_true false = refl
+or-true : (b : Bool) → true ≡ (b || true)
+or-true true = refl
+or-true false = refl
 
 -- an argument is a number or is misspelled, and never unread
 module _ (s : Lengths) where
   misspelled_on : (rest : Bool) (x : Scan ℕ) → ((lengths_on s (instant_by x)).misspelled || not rest) ≡ (s.misspelled || not (is_at (instant_by x) && rest))
-  misspelled_on rest (read v t) = by_test (at_end t) (λ e. rw e) (λ e. rw e (or_true s.misspelled))
-  misspelled_on rest (wrong t) = or_true s.misspelled
+  misspelled_on rest (read v t) = by_test (at_end t) (λ e. rw e) (λ e. rw e (or-true s.misspelled))
+  misspelled_on rest (wrong t) = or-true s.misspelled
 
   unread_on : (x : Scan ℕ) → (lengths_on s (instant_by x)).unread ≡ s.unread
   unread_on (read v t) = by_test (at_end t) (λ e. rw e) (λ e. rw e)

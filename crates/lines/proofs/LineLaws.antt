@@ -1,6 +1,6 @@
 -- A line judged: what code knows of its value stands for the value.
 use mathlib.Core.Path.{◌≡◌, refl, sym, ◌∙◌, ap}
-use mathlib.Core.Bool.{Bool, true, false, and_false}
+use mathlib.Core.Bool.{Bool, true, false, and-false}
 use mathlib.Core.List.{List, [], ◌∷◌}
 use Prim.Native.Nat.{ℕ, suc, ◌+◌, ◌<◌, ◌≤◌}
 use native.Mathlib.Omega.{arith}
@@ -45,7 +45,7 @@ within_kept r v h = by_test (leb v far) near away
     near e = let f = leb-true v far e in let g : kept v ≡ v = omega arith in rw g
 
     out : (x : ℕ) → far ≤ x → within r x ≡ false
-    out x l = rw (lt-leb x r.to (omega arith)) (and_false (leb r.from x))
+    out x l = rw (lt-leb x r.to (omega arith)) (and-false (leb r.from x))
 
     away : leb v far ≡ false → within r (kept v) ≡ within r v
     away e = let f = leb-false v far e in out (kept v) (omega arith) ∙ sym (out v (omega arith))

@@ -1,6 +1,6 @@
 -- Lines with their numbers: what code makes of the lines it read is what the rules make of the bytes.
 use mathlib.Core.Path.{◌≡◌, refl, sym, ◌∙◌, ap, subst}
-use mathlib.Core.Bool.{Bool, true, false, ◌&&◌, cond, and_false}
+use mathlib.Core.Bool.{Bool, true, false, ◌&&◌, cond, and-false}
 use mathlib.Core.List.{List, [], ◌∷◌}
 use Prim.Native.Nat.{ℕ, suc, ◌+◌, ◌≤◌}
 use native.Mathlib.Numerals.{add-one}
@@ -85,7 +85,7 @@ fair_orderly own [] h = refl
 fair_orderly own (x ∷ xs) h =
     by_test (rising own 0 (x ∷ xs))
     (λ t. rw (t, rising_within own 0 (x ∷ xs) h t))
-    (λ t. rw t (and_false (all? (in_range (coded Limits.predecessor)) (x ∷ xs))))
+    (λ t. rw t (and-false (all? (in_range (coded Limits.predecessor)) (x ∷ xs))))
 
 coded_numbered : (k own : ℕ) (p : Place) → own ≤ (Limits.nodes).to → coded_line k own p ≡ numbered (unfair_at k) p (line_judged k own p.bytes)
 unfolding after_line

@@ -1,7 +1,7 @@
 -- The masks of a graph's nodes together have a one at each number that stands in a list. So what they leave over is 0 exactly where every node
 -- but the last stands in one: `all_named`.
 use mathlib.Core.Path.{◌≡◌, refl, sym, ap, ◌∙◌}
-use mathlib.Core.Bool.{Bool, true, false, ◌||◌, or_false, or_assoc}
+use mathlib.Core.Bool.{Bool, true, false, ◌||◌, or-false, or_assoc}
 use mathlib.Core.List.{List}
 use Prim.Native.Nat.{ℕ, zero, suc, ◌+◌, ◌-◌, ◌<◌, ◌≤◌}
 use native.Mathlib.Numerals.{add-one}
@@ -29,7 +29,7 @@ nodes_counted nodes first (suc n) = ap suc (nodes_counted nodes (suc first) n)
 module _ (nodes : List PhalandrixNode) where
   named_bit : (n first m j : ℕ) → j < width → bit (named_from nodes m first n) j ≡ bit m j || followed (nodes_in nodes first n) (suc j)
   unfolding named_from followed
-  named_bit zero first m j h = sym (or_false (bit m j))
+  named_bit zero first m j h = sym (or-false (bit m j))
   named_bit (suc n) first m j h =
       let a = (get_or nodes first no_node).after in
       let rest = any? (λ (y : Node). any? (eqb (suc j)) y.after) (nodes_in nodes (suc first) n) in

@@ -22,13 +22,13 @@ use Rattle.mending.specs.Line.{fresh, with_byte, returned, blanked, line_after, 
 use Rattle.mending.proofs.TextRead.{waiting, cut_blank, cut_byte, blank_moves}
 use Rattle.mending.proofs.Changes.{return_changed, plain_changed, ends, ends_blank_lem, ends_byte, trailing, spared, spared_blanks, spared_nil}
 
-or_true : (a : Bool) → a || true ≡ true
-or_true true = refl
-or_true false = refl
+or-true : (a : Bool) → a || true ≡ true
+or-true true = refl
+or-true false = refl
 
-or_false : (a : Bool) → a || false ≡ a
-or_false true = refl
-or_false false = refl
+or-false : (a : Bool) → a || false ≡ a
+or-false true = refl
+or-false false = refl
 
 or_or : (a b d : Bool) → a || (b || d) ≡ (a || b) || d
 or_or true b d = refl
@@ -57,7 +57,7 @@ kinds_from l r a e =
 
 -- a carriage return
 returned_kinds : (l : Line) (r : Bool) (a : List ℕ) (e : Bool) → kinds_from l true a e ≡ kinds_from (returned l) r a e
-returned_kinds l r a e = all_five (or_true l.returns) refl refl refl refl
+returned_kinds l r a e = all_five (or-true l.returns) refl refl refl refl
 
 -- a blank
 blank_empty : (t : List ℕ) → empty? (cond (empty? t) [] (blank ∷ t)) ≡ empty? t
@@ -148,11 +148,11 @@ nothing_cut = refl
 pub kinds_end : (l : Line) (e : Bool) → kinds_with l [] e ≡ kinds_of l e
 kinds_end l e =
     ap (λ (a : List ℕ). kinds_from l (changed [] a) a e) nothing_left
-    ∙ all_five (or_false l.returns) (ap (λ (t : List ℕ). cond (empty? t) (not (eqb l.blanks 0) || false) (changed [] t)) nothing_cut ∙ or_false (not (eqb l.blanks 0)))
+    ∙ all_five (or-false l.returns) (ap (λ (t : List ℕ). cond (empty? t) (not (eqb l.blanks 0) || false) (changed [] t)) nothing_cut ∙ or-false (not (eqb l.blanks 0)))
     (ap (none l) nothing_cut)
     (ap (λ (t : List ℕ). not (none l t) && (l.zeros || spared l.place (waiting l.blanks t))) nothing_cut
     ∙ not_not l.kept (l.zeros || spared l.place [])
-    ∙ ap (λ (x : Bool). l.kept && x) (ap (λ (x : Bool). l.zeros || x) (spared_nil l.place) ∙ or_false l.zeros))
+    ∙ ap (λ (x : Bool). l.kept && x) (ap (λ (x : Bool). l.zeros || x) (spared_nil l.place) ∙ or-false l.zeros))
     (ap (λ (t : List ℕ). not (none l t) && not e) nothing_cut ∙ not_not l.kept (not e))
 
 -- a whole line

@@ -1,7 +1,7 @@
 -- The laws of masks: which bits are set after one is set or taken off, of two masks together, of a power of 2; the lowest set bit is set
 -- and none below it is; and no bit below k is left unset exactly where the unset ones make 0.
 use mathlib.Core.Path.{◌≡◌, sym, ap, ◌∙◌}
-use mathlib.Core.Bool.{Bool, true, false, ◌&&◌, ◌||◌, not, cond, and-true, and_false, or_comm, false≢true}
+use mathlib.Core.Bool.{Bool, true, false, ◌&&◌, ◌||◌, not, cond, and-true, and-false, or_comm, false≢true}
 use Prim.Native.Nat.{ℕ, zero, suc, ◌+◌, ◌-◌, ◌*◌, ◌/◌, ◌%◌, ◌^◌, ◌<◌, ◌≤◌, max}
 use native.Mathlib.Nat.{div-eq_of_lt, mul-mod_left, mod-lt, pow-suc, zero-lt-suc, one-mul, mod-eq_of_lt, mod-one, zero-mul, lt_of_lt_of_le}
 use native.Mathlib.Omega.{arith}
@@ -171,7 +171,7 @@ unset_more k m =
     let g : unset_below k m ≡ 2 ^ k - 1 - m % 2 ^ k = ap (λ (z : ℕ). 2 ^ k - 1 - z) (and_mask m k) in
     ap (λ (z : ℕ). eqb z 0) e
     ∙ by_digit (m / 2 ^ k % 2) (mod-lt (m / 2 ^ k) (zero-lt-suc 1))
-    (λ z. rw z (gap (2 ^ k) (m % 2 ^ k) (pow_pos k) (mod-lt m (pow_pos k)) ∙ sym (and_false (eqb (unset_below k m) 0))))
+    (λ z. rw z (gap (2 ^ k) (m % 2 ^ k) (pow_pos k) (mod-lt m (pow_pos k)) ∙ sym (and-false (eqb (unset_below k m) 0))))
     (λ z. rw z (kept (2 ^ k) (m % 2 ^ k) (pow_pos k) (mod-lt m (pow_pos k)) ∙ sym (ap (λ (y : ℕ). eqb y 0) g) ∙ sym (and-true (eqb (unset_below k m) 0))))
   where
     suc_one : (k : ℕ) → suc k ≡ 1 + k

@@ -1,6 +1,6 @@
 -- An instant of the plain engine: sums that fit, a server's pending jobs one by one, and the predecessors of a mask.
 use mathlib.Core.Path.{◌≡◌, refl, sym, ap, ◌∙◌}
-use mathlib.Core.Bool.{Bool, true, false, ◌&&◌, ◌||◌, not, or_true}
+use mathlib.Core.Bool.{Bool, true, false, ◌&&◌, ◌||◌, not, or-true}
 use mathlib.Core.List.{List}
 use Prim.Native.Nat.{ℕ, zero, suc, ◌+◌, ◌*◌, ◌-◌, ◌^◌, ◌≤◌, ◌<◌}
 use native.Mathlib.Nat.{mul-le-mul_left}
@@ -73,8 +73,8 @@ module _ (finished : List ℕ) (j : ℕ) where
       here : (q : ℕ) → q ≡ p → finished_in m q ≡ finished_in (without m p) q
       here q e =
           let t : leb j (get_or finished q 0) ≡ true = le-leb j (get_or finished q 0) (rw e h) in
-          ap (λ (b : Bool). not (bit m q) || b) t ∙ or_true (not (bit m q))
-          ∙ sym (ap (λ (b : Bool). not (bit (without m p) q) || b) t ∙ or_true (not (bit (without m p) q)))
+          ap (λ (b : Bool). not (bit m q) || b) t ∙ or-true (not (bit m q))
+          ∙ sym (ap (λ (b : Bool). not (bit (without m p) q) || b) t ∙ or-true (not (bit (without m p) q)))
 
       other : (q : ℕ) → eqb q p ≡ false → finished_in m q ≡ finished_in (without m p) q
       other q e = ap (λ (b : Bool). not b || leb j (get_or finished q 0)) (sym (bit_without m p q ∙ ap (λ (b : Bool). not b && bit m q) e))

@@ -1,6 +1,6 @@
 -- The laws of masks by place: the bits of a mask that is made of a test; a mask is its bits, and moves bit by bit to its places.
 use mathlib.Core.Path.{◌≡◌, sym, ap, ◌∙◌}
-use mathlib.Core.Bool.{Bool, true, false, ◌&&◌, ◌||◌, not, cond, or_false, or_true, false≢true}
+use mathlib.Core.Bool.{Bool, true, false, ◌&&◌, ◌||◌, not, cond, or-false, or-true, false≢true}
 use Prim.Native.Nat.{ℕ, zero, suc, ◌+◌, ◌-◌, ◌/◌, ◌%◌, ◌^◌, ◌<◌, ◌≤◌}
 use native.Mathlib.Nat.{mod-lt, zero-lt-suc, mod-eq_of_lt, mod-one}
 use native.Mathlib.Omega.{arith}
@@ -109,7 +109,7 @@ module _ (mask first : ℕ) where
           → (eqb p (first + q) || bit placed p) || (leb first p && (not (eqb (p - first) q) && bit rest (p - first))) ≡ bit placed p || placed_bit rest first p
       now e =
           let f : p - first ≡ q = omega arith in
-          rw (eq-eqb p (first + q) e, le-leb first p (omega arith), f, there) (sym (or_true (bit placed p)))
+          rw (eq-eqb p (first + q) e, le-leb first p (omega arith), f, there) (sym (or-true (bit placed p)))
 
       others : (p ≡ first + q → ⊥)
           → (eqb p (first + q) || bit placed p) || (leb first p && (not (eqb (p - first) q) && bit rest (p - first))) ≡ bit placed p || placed_bit rest first p
@@ -121,7 +121,7 @@ module _ (mask first : ℕ) where
   pub all_placed : (placed : ℕ) → placed < 2 ^ width → Halfway placed 0 → placed ≡ at_places mask first
   all_placed placed h half =
       places_same placed h
-      (λ p l. sym (or_false (bit placed p)) ∙ ap (λ (b : Bool). bit placed p || b) (sym (none p)) ∙ half p l)
+      (λ p l. sym (or-false (bit placed p)) ∙ ap (λ (b : Bool). bit placed p || b) (sym (none p)) ∙ half p l)
     where
       none : (p : ℕ) → placed_bit 0 first p ≡ false
       none p = rw (no_bit (p - first)) (by_test (leb first p) (λ t. rw t) (λ t. rw t))

@@ -1,7 +1,7 @@
 -- The servers and the sinks of the rules' box by place: at the place of node q of graph g stands that node's server, and it is a sink exactly
 -- where the node is its graph's last.
 use mathlib.Core.Path.{◌≡◌, refl, sym, ap, ◌∙◌}
-use mathlib.Core.Bool.{Bool, true, false, ◌&&◌, ◌||◌, or_false}
+use mathlib.Core.Bool.{Bool, true, false, ◌&&◌, ◌||◌, or-false}
 use mathlib.Core.List.{List, [], ◌∷◌, map}
 use Prim.Native.Nat.{ℕ, zero, suc, ◌+◌, ◌-◌, ◌≤◌, ◌<◌}
 use native.Mathlib.Nat.{not-suc-le-zero}
@@ -85,7 +85,7 @@ sink_at [] base g q some h l = absurd (not-suc-le-zero h)
 sink_at (G ∷ Gs) base zero q some h l =
     let i = base + (0 + q) in
     let last = base + length G.nodes - 1 in
-    rw (no_sink Gs (base + length G.nodes) i (λ g k. some (suc g) (omega arith)) (omega arith), or_false (eqb i last))
+    rw (no_sink Gs (base + length G.nodes) i (λ g k. some (suc g) (omega arith)) (omega arith), or-false (eqb i last))
     (by_test (eqb i last)
     (λ t. let e = eqb-true i last t in t ∙ sym (eq-eqb (q + 1) (length G.nodes) (omega arith)))
     (λ t. let e = eqb-false i last t in t ∙ sym (ne_eqb (q + 1) (length G.nodes) (λ (f : q + 1 ≡ length G.nodes). e (omega arith)))))

@@ -1,6 +1,6 @@
 -- The text of the numbers in a mask: `none` for 0; else that of the lowest, and of the mask without it.
 use mathlib.Core.Path.{◌≡◌, refl, sym, ap, subst, ◌∙◌}
-use mathlib.Core.Bool.{Bool, true, false, ◌&&◌, not, cond, and_false, false≢true}
+use mathlib.Core.Bool.{Bool, true, false, ◌&&◌, not, cond, and-false, false≢true}
 use mathlib.Core.List.{List, [], ◌∷◌, ◌++◌}
 use Prim.Native.Nat.{ℕ, zero, suc, ◌+◌, ◌-◌, ◌*◌, ◌/◌, ◌%◌, ◌^◌, ◌<◌, ◌≤◌}
 use native.Mathlib.Numerals.{add-one}
@@ -118,7 +118,7 @@ module _ (m k r : ℕ) (some : 0 < m) (wide : m < 2 ^ width) (e : k ≡ lowest m
       ap (λ (x : ℕ). bit x j) rest_is
       ∙ bit_without m (lowest m) j
       ∙ by_test (eqb j (lowest m)) (λ t. rw t refl)
-      (λ t. ap (λ (b : Bool). not (eqb j (lowest m)) && b) (below_lowest m j (lt_of_le-ne h (eqb-false j (lowest m) t))) ∙ and_false (not (eqb j (lowest m))))
+      (λ t. ap (λ (b : Bool). not (eqb j (lowest m)) && b) (below_lowest m j (lt_of_le-ne h (eqb-false j (lowest m) t))) ∙ and-false (not (eqb j (lowest m))))
 
   pub next_lowest : 0 < r → r < 2 ^ width → lowest m < lowest r
   next_lowest h w =

@@ -1,6 +1,6 @@
 -- The mask that is left over is 0 exactly where every node but the last stands in some list.
 use mathlib.Core.Path.{◌≡◌, sym, ◌∙◌, ap}
-use mathlib.Core.Bool.{Bool, true, ◌&&◌, ◌||◌, or_false, or_assoc, and-true, and_assoc}
+use mathlib.Core.Bool.{Bool, true, ◌&&◌, ◌||◌, or-false, or_assoc, and-true, and_assoc}
 use mathlib.Core.List.{List, [], ◌∷◌}
 use Prim.Native.Nat.{ℕ, zero, suc, ◌+◌, ◌-◌, ◌<◌, ◌≤◌}
 use native.Mathlib.Omega.{arith}
@@ -22,7 +22,7 @@ use Rattle.scanning.proofs.MaskBits.{orderly_fits, mask_bit}
 named_bit : (xs : List Node) (own m j : ℕ) → own + length xs ≤ suc (suc width) → nodes_formed own xs ≡ true
     → bit (named_from m xs) j ≡ bit m j || followed xs (suc j)
 unfolding named_from followed
-named_bit [] own m j h e = sym (or_false (bit m j))
+named_bit [] own m j h e = sym (or-false (bit m j))
 named_bit (x ∷ xs) own m j h e =
     let f = node_formed own x xs e in
     let rest = any? (λ (y : Node). any? (eqb (suc j)) y.after) xs in

@@ -1,6 +1,6 @@
 -- Releasing: the earliest instant; a server that has no room for one job more; the counts of one that releases; the predecessors of a mask.
 use mathlib.Core.Path.{◌≡◌, sym, ap, ◌∙◌}
-use mathlib.Core.Bool.{Bool, true, false, ◌&&◌, ◌||◌, not, or_true}
+use mathlib.Core.Bool.{Bool, true, false, ◌&&◌, ◌||◌, not, or-true}
 use mathlib.Core.List.{List}
 use mathlib.Core.Logic.{◌⊎◌}
 use Prim.Native.Nat.{ℕ, ◌+◌, ◌^◌, ◌≤◌, ◌<◌}
@@ -74,8 +74,8 @@ module _ (unfinished : List ℕ) (unlinked : ℕ) where
       here : (j : ℕ) → j ≡ p → fewer_at m j ≡ fewer_at (without m p) j
       here j e =
           let t : ltb (get_or unfinished j 0) unlinked ≡ true = lt-ltb (get_or unfinished j 0) unlinked (rw e h) in
-          ap (λ (b : Bool). not (bit m j) || b) t ∙ or_true (not (bit m j))
-          ∙ sym (ap (λ (b : Bool). not (bit (without m p) j) || b) t ∙ or_true (not (bit (without m p) j)))
+          ap (λ (b : Bool). not (bit m j) || b) t ∙ or-true (not (bit m j))
+          ∙ sym (ap (λ (b : Bool). not (bit (without m p) j) || b) t ∙ or-true (not (bit (without m p) j)))
 
       other : (j : ℕ) → eqb j p ≡ false → fewer_at m j ≡ fewer_at (without m p) j
       other j e = ap (λ (b : Bool). not b || ltb (get_or unfinished j 0) unlinked) (sym (bit_without m p j ∙ ap (λ (b : Bool). not b && bit m j) e))

@@ -1,6 +1,6 @@
 -- The first number of a list that breaks the rules, found one number after the other.
 use mathlib.Core.Path.{◌≡◌, refl, sym, ◌∙◌, ap, subst}
-use mathlib.Core.Bool.{Bool, true, false, ◌&&◌, cond, and_false}
+use mathlib.Core.Bool.{Bool, true, false, ◌&&◌, cond, and-false}
 use mathlib.Core.List.{List, [], ◌∷◌, tail}
 use Prim.Native.Nat.{ℕ, zero, suc, ◌+◌, ◌<◌, ◌≤◌}
 use native.Mathlib.Nat.{not-suc-le-zero}
@@ -27,7 +27,7 @@ rises_kept own last v h = by_test (leb v far) near away
     near e = let f = leb-true v far e in let g : kept v ≡ v = omega arith in rw g
 
     out : (x : ℕ) → own ≤ x → rises own last x ≡ false
-    out x i = rw (le-ltb x own i) (and_false (ltb last x))
+    out x i = rw (le-ltb x own i) (and-false (ltb last x))
 
     away : leb v far ≡ false → rises own last (kept v) ≡ rises own last v
     away e = let f = leb-false v far e in out (kept v) (omega arith) ∙ sym (out v (omega arith))
@@ -42,7 +42,7 @@ kept_whole own last v h e = by_test (leb v far) near away
     away : leb v far ≡ false → kept v ≡ v
     away f =
         let g = leb-false v far f in
-        let lost : rises own last (kept v) ≡ false = rw (le-ltb (kept v) own (omega arith)) (and_false (ltb last (kept v))) in
+        let lost : rises own last (kept v) ≡ false = rw (le-ltb (kept v) own (omega arith)) (and-false (ltb last (kept v))) in
         absurd (let z : true ≡ false = sym e ∙ lost in let y : ◌≡◌ {A = ℕ} 0 1 = cc in omega arith)
 
 -- a number takes a byte

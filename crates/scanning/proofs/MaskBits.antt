@@ -1,6 +1,6 @@
 -- The mask of a list that keeps the predecessor rules has a one at each of its numbers, and no other.
 use mathlib.Core.Path.{◌≡◌, sym, ◌∙◌, ap}
-use mathlib.Core.Bool.{Bool, true, ◌&&◌, ◌||◌, or_false, or_assoc, or_comm}
+use mathlib.Core.Bool.{Bool, true, ◌&&◌, ◌||◌, or-false, or_assoc, or_comm}
 use mathlib.Core.List.{List, [], ◌∷◌}
 use Prim.Native.Nat.{ℕ, zero, suc, ◌+◌, ◌-◌, ◌<◌, ◌≤◌}
 use native.Mathlib.Omega.{arith}
@@ -35,7 +35,7 @@ orderly_fits own (x ∷ xs) h e = rising_fits own 0 (x ∷ xs) h e
 -- a mask has a one at each number of its list
 mask_from_bit : (l : List ℕ) (m j : ℕ) → Fits l → bit (mask_from m l) j ≡ bit m j || any? (eqb (suc j)) l
 unfolding mask_from
-mask_from_bit [] m j f = sym (or_false (bit m j))
+mask_from_bit [] m j f = sym (or-false (bit m j))
 mask_from_bit (zero ∷ xs) m j f = absurd (omega (arith, f.0))
 mask_from_bit (suc x ∷ xs) m j f =
     let e : suc x - 1 ≡ x = omega arith in

@@ -1,6 +1,6 @@
 -- A list of predecessors, read one number after the other: what code knows of it at each comma, and at its end.
 use mathlib.Core.Path.{◌≡◌, refl, sym, ◌∙◌, ap, subst}
-use mathlib.Core.Bool.{Bool, true, false, ◌&&◌, ◌||◌, cond, and_false}
+use mathlib.Core.Bool.{Bool, true, false, ◌&&◌, ◌||◌, cond, and-false}
 use mathlib.Core.List.{List, [], ◌∷◌, tail}
 use Prim.Native.Nat.{ℕ, zero, suc, ◌+◌, ◌-◌, ◌*◌, ◌<◌, ◌≤◌}
 use native.Mathlib.Nat.{not-suc-le-zero}
@@ -80,7 +80,7 @@ numbers_step b =
 
 -- four tests, the second and the third swapped
 swapped : (a b c d : Bool) → (a && b) && (c && d) ≡ (a && c) && (b && d)
-swapped a b c d = by_test a (λ e. rw e (by_test b (λ f. rw f (by_test c (λ g. rw g) (λ g. rw g))) (λ f. rw f (sym (and_false c))))) (λ e. rw e)
+swapped a b c d = by_test a (λ e. rw e (by_test b (λ f. rw f (by_test c (λ g. rw g) (λ g. rw g))) (λ f. rw f (sym (and-false c))))) (λ e. rw e)
 
 -- a number past every limit breaks the rules as the number kept at far does
 entered_kept : (r : Range) (own : ℕ) (l : Listing) (v : ℕ) → own ≤ far → entered r own l (kept v) ≡ entered r own l v
@@ -90,7 +90,7 @@ entered_kept r own l v h = by_test (leb v far) near away
     near e = let f = leb-true v far e in let g : kept v ≡ v = omega arith in rw g
 
     out : (x : ℕ) → own ≤ x → entered r own l x ≡ record { mask = l.mask; last = l.last; orderly = false }
-    out x i = rw (le-ltb x own i, and_false (ltb l.last x), and_false (in_range r x), and_false l.orderly)
+    out x i = rw (le-ltb x own i, and-false (ltb l.last x), and-false (in_range r x), and-false l.orderly)
 
     away : leb v far ≡ false → entered r own l (kept v) ≡ entered r own l v
     away e = let f = leb-false v far e in out (kept v) (omega arith) ∙ sym (out v (omega arith))

@@ -1,6 +1,6 @@
 -- What a loop comes to at one index more, and at an index that decides it.
 use mathlib.Core.Path.{◌≡◌, refl, sym, ap, ◌∙◌}
-use mathlib.Core.Bool.{Bool, true, false, and-true, and_false, or_true, or_false}
+use mathlib.Core.Bool.{Bool, true, false, and-true, and-false, or-true, or-false}
 use mathlib.Core.List.{List}
 use Prim.Native.Nat.{ℕ, zero, suc, ◌+◌, ◌<◌}
 use native.Mathlib.Numerals.{add-one}
@@ -13,11 +13,11 @@ module _ (p : ℕ → Bool) where
   -- some index passes
   pub some_yes : (i : ℕ) → p i ≡ true → true ≡ some_below p (i + 1)
   unfolding some_below
-  some_yes i e = rw (add-one i, e) (sym (or_true (some_below p i)))
+  some_yes i e = rw (add-one i, e) (sym (or-true (some_below p i)))
 
   pub some_no : (i : ℕ) → p i ≡ false → some_below p i ≡ some_below p (i + 1)
   unfolding some_below
-  some_no i e = rw (add-one i, e) (sym (or_false (some_below p i)))
+  some_no i e = rw (add-one i, e) (sym (or-false (some_below p i)))
 
   pub some_found : (n i : ℕ) → i < n → p i ≡ true → true ≡ some_below p n
   unfolding some_below
@@ -25,7 +25,7 @@ module _ (p : ℕ → Bool) where
   some_found (suc n) i h e =
       by_lt i n
       (λ l. rw (← some_found n i l e))
-      (λ l. let g : n ≡ i = omega arith in rw (g, e) (sym (or_true (some_below p i))))
+      (λ l. let g : n ≡ i = omega arith in rw (g, e) (sym (or-true (some_below p i))))
 
   -- each index passes
   pub all_yes : (i : ℕ) → p i ≡ true → all_below p i ≡ all_below p (i + 1)
@@ -38,7 +38,7 @@ module _ (p : ℕ → Bool) where
   all_missed (suc n) i h e =
       by_lt i n
       (λ l. rw (← all_missed n i l e))
-      (λ l. let g : n ≡ i = omega arith in rw (g, e) (sym (and_false (all_below p i))))
+      (λ l. let g : n ≡ i = omega arith in rw (g, e) (sym (and-false (all_below p i))))
 
   pub all_true : (n : ℕ) → ((i : ℕ) → i < n → p i ≡ true) → true ≡ all_below p n
   unfolding all_below

@@ -59,9 +59,9 @@ module _ (f : ℕ → ℕ) where
         h (c + d + 1) (omega arith) (omega arith),
       ))
 
-and_false : (b : Bool) → (b && false) ≡ false
-and_false true = refl
-and_false false = refl
+and-false : (b : Bool) → (b && false) ≡ false
+and-false true = refl
+and-false false = refl
 
 -- a server job after the complete ones has budget left
 pub left_over : (S : List Server) (cap : ℕ → ℕ) (t i k : ℕ) → 0 < budget_of S i → completed S cap t i < k → used_by S cap t i k < budget_of S i
@@ -115,11 +115,11 @@ module _ (X : Box) (t d : ℕ) (quiet : Quiet X.servers X.cap t d) (some : 1 ≤
 
     complete_before : (k : ℕ) → budget ≤ ticks t k → response k ≡ 0
     unfolding response_at whole
-    complete_before k h = rw (le-ltb (ticks t k) budget h, and_false (leb budget (ticks (t + d) k)), and_false (ltb 0 (job_of k)))
+    complete_before k h = rw (le-ltb (ticks t k) budget h, and-false (leb budget (ticks (t + d) k)), and-false (ltb 0 (job_of k)))
 
     not_complete_yet : (k : ℕ) → ticks (t + d) k < budget → response k ≡ 0
     unfolding response_at whole
-    not_complete_yet k h = rw (lt-leb budget (ticks (t + d) k) h, and_false (ltb 0 (job_of k)))
+    not_complete_yet k h = rw (lt-leb budget (ticks (t + d) k) h, and-false (ltb 0 (job_of k)))
 
     complete_now : (k : ℕ) → budget ≤ ticks (t + d) k → ticks t k < budget
         → response k ≡ cond (ltb 0 (job_of k)) (t + d - release_of (srv S i) (job_of k)) 0

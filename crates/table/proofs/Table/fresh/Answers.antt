@@ -1,0 +1,6 @@
+-- `Table::fresh` meets its contract: its servers are copies of what `empty_server` ensures.
+use borrow.Author.Rules.{rules}
+use Rattle.table.proofs.Table.fresh.Goals as goal
+
+pub returns : goal.returns
+returns c = rw c.empty_server-s.ensures
