@@ -1,0 +1,21 @@
+-- `line_length` meets its contract: a number has too few digits, and a slice too few bytes, for the sum to wrap.
+use mathlib.Core.List.{[], ◌∷◌}
+use native.Mathlib.Omega.{arith}
+use lib.ListN.{length-append}
+use Rattle.format.specs.Bytes.{equals, line_feed, decimal}
+use Rattle.writing.specs.Line.{ended}
+use borrow.Author.Rules.{rules}
+use Rattle.writing.proofs.line.line_length.Goals as goal
+
+pub overflow_add-result-2 : goal.overflow_add-result-2
+overflow_add-result-2 c = omega (arith, c.digits.ensures.within, c.well_formed.0.1)
+
+pub overflow_add-result-3 : goal.overflow_add-result-3
+overflow_add-result-3 c = omega (arith, c.digits.ensures.within, c.well_formed.0.1)
+
+pub returns : goal.returns
+returns c =
+    record {
+      size = omega (arith, c.digits.ensures.size, length-append c.args.name.now (equals ∷ ended c.args.v line_feed), length-append (decimal c.args.v) (line_feed ∷ []));
+      within = omega (arith, c.digits.ensures.within);
+    }

@@ -1,0 +1,44 @@
+-- `put_line` meets its contract: the name, `=` where it ended, then the number and LF in the part from there on.
+use mathlib.Core.List.{List, [], ◌∷◌, ◌++◌}
+use Prim.Native.Nat.{ℕ, ◌+◌, ◌≤◌}
+use native.Mathlib.Omega.{arith}
+use lib.ListN.{length, set, length-append}
+use lib.Seq.{append_snoc}
+use Rattle.format.specs.Bytes.{equals, line_feed}
+use Rattle.writing.specs.Line.{ended, line}
+use Rattle.writing.specs.Written.{Written}
+use Rattle.writing.proofs.Writing.{named, then_byte, begins, room, both, keeps}
+use borrow.Author.Rules.{rules}
+use Rattle.writing.proofs.line.put_line.Goals as goal
+
+module _ {name part t : List ℕ} {n : ℕ} (v : ℕ) (w : Written name part t n) (fit : length (line name v) ≤ length part) where
+  with-equals : Written (name ++ (equals ∷ [])) part (set t n equals) (n + 1)
+  with-equals = then_byte w equals (omega (arith, length-append name (equals ∷ ended v line_feed)))
+
+  fit-both : length (name ++ (equals ∷ [])) + length (ended v line_feed) ≤ length part
+  fit-both = omega (arith, length-append name (equals ∷ []), length-append name (equals ∷ ended v line_feed))
+
+pub put_bytes-n-requires : goal.put_bytes-n-requires
+put_bytes-n-requires c =
+    omega (arith, length-append c.args.name.now (equals ∷ ended c.args.v line_feed), c.requires)
+
+pub bounds-part-n : goal.bounds-part-n
+bounds-part-n c =
+    omega (arith, length-append c.args.name.now (equals ∷ ended c.args.v line_feed), c.requires, c.put_bytes-n.ensures.size, c.put_bytes-n.auto.part)
+
+pub slice_bounds-put_ended-count : goal.slice_bounds-put_ended-count
+slice_bounds-put_ended-count c =
+    begins (ended c.args.v line_feed) (with-equals c.args.v c.put_bytes-n.ensures c.requires) (fit-both c.args.v c.put_bytes-n.ensures c.requires)
+
+pub put_ended-requires : goal.put_ended-requires
+put_ended-requires c =
+    room (ended c.args.v line_feed) (with-equals c.args.v c.put_bytes-n.ensures c.requires) (fit-both c.args.v c.put_bytes-n.ensures c.requires)
+
+pub overflow_add-result : goal.overflow_add-result
+overflow_add-result c =
+    omega (arith, (with-equals c.args.v c.put_bytes-n.ensures c.requires).size, c.put_ended.ensures.size, fit-both c.args.v c.put_bytes-n.ensures c.requires, c.well_formed.0.0)
+
+pub returns : goal.returns
+returns c =
+    named (append_snoc c.args.name.now equals (ended c.args.v line_feed))
+    (both (ended c.args.v line_feed) (with-equals c.args.v c.put_bytes-n.ensures c.requires) (fit-both c.args.v c.put_bytes-n.ensures c.requires) c.put_ended.ensures)

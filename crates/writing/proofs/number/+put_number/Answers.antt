@@ -1,0 +1,48 @@
+-- `put_number` meets its contract: the digits of the tenth are written before the last digit, and the number falls.
+use mathlib.Core.Path.{sym}
+use Prim.Native.Nat.{ℕ, ◌+◌, ◌%◌, ◌<◌}
+use native.Mathlib.Omega.{arith}
+use lib.ListN.{length-set}
+use borrow.Author.Rules.{rules}
+use Rattle.format.specs.Bytes.{digit_zero}
+use Rattle.format.proofs.Decimal.{decimal_one, decimal_more}
+use Rattle.writing.proofs.Counting.{digits_one, digits_more}
+use Rattle.writing.proofs.Writing.{nothing, named, then_byte}
+use Rattle.writing.proofs.number.+put_number.Goals as goal
+
+pub overflow_cast-part : goal.overflow_cast-part
+overflow_cast-part t c = omega arith
+
+pub overflow_add-part : goal.overflow_add-part
+overflow_add-part t c = omega arith
+
+pub bounds-part-0 : goal.bounds-part-0
+bounds-part-0 t c = omega (arith, digits_one c.args.v c.if-v-lt10.true, c.requires)
+
+pub returns-then-v-lt10 : goal.returns-then-v-lt10
+returns-then-v-lt10 t c =
+    named (sym (decimal_one c.args.v c.if-v-lt10.true))
+    (then_byte (nothing c.args.part.now) (digit_zero + c.args.v) (omega (arith, digits_one c.args.v c.if-v-lt10.true, c.requires)))
+
+pub put_number-n-requires : goal.put_number-n-requires
+put_number-n-requires t c =
+    (omega (arith, c.decreases), omega (arith, digits_more c.args.v (omega arith), c.requires))
+
+pub overflow_cast-part-2 : goal.overflow_cast-part-2
+overflow_cast-part-2 t c = omega arith
+
+pub overflow_add-part-2 : goal.overflow_add-part-2
+overflow_add-part-2 t c = omega arith
+
+pub bounds-part-n : goal.bounds-part-n
+bounds-part-n t c =
+    omega (arith, digits_more c.args.v (omega arith), c.requires, c.put_number-n.ensures.size, c.put_number-n.auto.part)
+
+pub overflow_add-result : goal.overflow_add-result
+overflow_add-result t c =
+    omega (arith, digits_more c.args.v (omega arith), c.requires, c.put_number-n.ensures.size, c.well_formed.0.0)
+
+pub returns : goal.returns
+returns t c =
+    named (sym (decimal_more c.args.v (omega arith)))
+    (then_byte c.put_number-n.ensures (digit_zero + c.args.v % 10) (omega (arith, digits_more c.args.v (omega arith), c.requires)))

@@ -1,0 +1,40 @@
+-- `report_length` meets its contract.
+use mathlib.Core.List.{◌++◌}
+use native.Mathlib.Omega.{arith}
+use lib.ListN.{take, length-append}
+use Rattle.format.specs.Bytes.{bytes}
+use Rattle.rules.specs.Answers.{answer_line, response_lines, report_text}
+use Rattle.writing.specs.Line.{line}
+use borrow.Author.Rules.{rules}
+use Rattle.writing.proofs.report.report_length.Goals as goal
+
+pub overflow_add-head : goal.overflow_add-head
+overflow_add-head c = omega (arith, c.line_length.ensures.within, c.line_length-2.ensures.within)
+
+pub overflow_add-head-2 : goal.overflow_add-head-2
+overflow_add-head-2 c = omega (arith, c.line_length.ensures.within, c.line_length-2.ensures.within, c.line_length-3.ensures.within)
+
+pub overflow_add-result : goal.overflow_add-result
+overflow_add-result c =
+    omega (arith, c.line_length.ensures.within, c.line_length-2.ensures.within, c.line_length-3.ensures.within, c.responses_length.ensures.within)
+
+pub returns : goal.returns
+unfolding report_text answer_line
+returns c =
+    let answer = line (bytes "answer") 0 in
+    let round = line (bytes "round") c.args.round in
+    let ticks = line (bytes "ticks") c.args.ticks in
+    let responses = response_lines (take c.args.graphs c.args.figures) in
+    record {
+      size = omega (
+        arith,
+        length-append answer (round ++ (ticks ++ responses)),
+        length-append round (ticks ++ responses),
+        length-append ticks responses,
+        c.line_length.ensures.size,
+        c.line_length-2.ensures.size,
+        c.line_length-3.ensures.size,
+        c.responses_length.ensures.size,
+      );
+      within = omega (arith, c.line_length.ensures.within, c.line_length-2.ensures.within, c.line_length-3.ensures.within, c.responses_length.ensures.within);
+    }
