@@ -1,0 +1,16 @@
+-- `graph_of` meets its contract.
+use mathlib.Core.Path.{◌≡◌, sym, ◌∙◌}
+use Prim.Native.Nat.{◌-◌, ◌≤◌}
+use native.Mathlib.Omega.{arith}
+use lib.ListN.{length, length-map, get_or-eq_default}
+use borrow.Author.Rules.{rules}
+use Rattle.schedule.specs.Limits as Limits
+use Rattle.table.specs.Fresh.{no_graph}
+use Rattle.admission.proofs.loads.graph_of.Goals as goal
+
+pub returns : goal.returns
+returns c =
+    let a = c.args in
+    let many : length a.t1.graph ≡ (Limits.graphs).to = c.well_formed.0.1.1.1.1.1.1.0.1.0.1 in
+    let past : length a.t1.graph ≤ a.g = omega arith in
+    sym (get_or-eq_default a.t1.graph no_graph past)

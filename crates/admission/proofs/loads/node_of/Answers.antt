@@ -1,0 +1,23 @@
+-- `node_of` meets its contract.
+use mathlib.Core.Path.{◌≡◌, sym, ◌∙◌}
+use Prim.Native.Nat.{◌+◌, ◌-◌, ◌≤◌}
+use native.Mathlib.Omega.{arith}
+use lib.ListN.{length, length-map, get_or-eq_default}
+use borrow.Author.Rules.{rules}
+use Rattle.schedule.specs.Limits as Limits
+use Rattle.table.specs.Fresh.{no_node}
+use Rattle.admission.proofs.loads.node_of.Goals as goal
+
+pub returns-else-k-first : goal.returns-else-k-first
+returns-else-k-first c =
+    let a = c.args in
+    let many : length a.t1.node ≡ (Limits.all_nodes).to = c.well_formed.0.1.1.1.1.1.1.1.0.1.0.1 in
+    let past : length a.t1.node ≤ a.first + a.k = omega arith in
+    sym (get_or-eq_default a.t1.node no_node past)
+
+pub returns-else-first-lt-SERVERS : goal.returns-else-first-lt-SERVERS
+returns-else-first-lt-SERVERS c =
+    let a = c.args in
+    let many : length a.t1.node ≡ (Limits.all_nodes).to = c.well_formed.0.1.1.1.1.1.1.1.0.1.0.1 in
+    let past : length a.t1.node ≤ a.first + a.k = omega arith in
+    sym (get_or-eq_default a.t1.node no_node past)
