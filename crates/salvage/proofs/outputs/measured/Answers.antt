@@ -51,7 +51,4 @@ pub overflow_add-result-2 : goal.overflow_add-result-2
 overflow_add-result-2 c = omega (arith, list_room_last c.loop-i.invariant c.requires (omega arith) c.kinds_last.result c.fixes_length.result c.kinds_last.ensures c.fixes_length.ensures)
 
 pub returns : goal.returns
-returns c = (
-  text_all c.loop-i.invariant c.requires (omega arith) c.ended.result c.added_length.result c.ended.ensures c.added_length.ensures,
-  list_all c.loop-i.invariant c.requires (omega arith) c.kinds_last.result c.fixes_length.result c.kinds_last.ensures c.fixes_length.ensures,
-)
+returns c = record { text = text_all c.loop-i.invariant c.requires (omega arith) c.ended.result c.added_length.result c.ended.ensures c.added_length.ensures; list = list_all c.loop-i.invariant c.requires (omega arith) c.kinds_last.result c.fixes_length.result c.kinds_last.ensures c.fixes_length.ensures }
