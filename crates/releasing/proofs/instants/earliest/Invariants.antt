@@ -1,0 +1,14 @@
+use mathlib.Core.Path.{◌≡◌, refl, ◌∙◌}
+use mathlib.Core.Logic.{⊎_elim}
+use Prim.Native.Nat.{◌-◌, ◌≤◌}
+use native.Mathlib.Nat.{le_antisymm}
+use Rattle.window.specs.Releasing.{earliest}
+use Rattle.releasing.proofs.ReleaseLaws.{earliest_now, earliest_before}
+use borrow.Author.Rules.{rules}
+use Rattle.releasing.proofs.instants.earliest.Given as goal
+
+abbrev pub invariant-loop-i : goal.invariant-loop-i
+invariant-loop-i l = (l.i ≤ l.n) × (l.least ≡ earliest l.next l.i)
+
+abbrev pub decreases-loop-i : goal.decreases-loop-i
+decreases-loop-i l = l.n - l.i
