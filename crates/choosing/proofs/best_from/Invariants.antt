@@ -1,11 +1,6 @@
-use mathlib.Core.Path.{◌≡◌, refl, ◌∙◌}
-use mathlib.Core.Logic.{⊎_elim}
+use mathlib.Core.Path.{◌≡◌}
 use Prim.Native.Nat.{◌-◌, ◌≤◌}
-use native.Mathlib.Nat.{le_antisymm}
-use borrow.Author.Rules.{rules}
-use borrow.Author.Tests.{lt-ltb, le-ltb}
-use Rattle.window.specs.Choosing.{best_from, head_from}
-use Rattle.choosing.proofs.ChooseLaws.{best_more, best_same}
+use Rattle.window.specs.Choosing.{best_from}
 use Rattle.choosing.proofs.best_from.Given as goal
 
 abbrev pub invariant-loop-i : goal.invariant-loop-i

@@ -1,11 +1,10 @@
 -- `choose` meets its contract. The loop keeps: the lists, the heads and the slots taken are those of the first m choices.
-use mathlib.Core.Path.{◌≡◌, refl, sym, ◌∙◌}
-use mathlib.Core.Logic.{⊎_elim}
-use Prim.Native.Nat.{◌-◌, ◌≤◌}
-use Rattle.window.specs.Choosing.{Picks, picks}
+use mathlib.Core.Path.{refl, sym, ◌∙◌}
+use Rattle.window.specs.Choosing.{picks}
 use Rattle.choosing.proofs.ChooseLaws.{all_picked, picked_all, picked_of, picked_next, picked_last}
 use borrow.Author.Rules.{rules}
 use Rattle.choosing.proofs.choose.Goals as goal
+use Rattle.choosing.proofs.choose.Goals.{then-d-ready_of, else-d-ready_of}
 
 pub loop-m-init : goal.loop-m-init
 unfolding picks
@@ -20,16 +19,16 @@ pub loop-m-preserved : goal.loop-m-preserved
 loop-m-preserved c =
     let a = c.args in (
       search rules,
-      ⊎_elim
-          (λ w.
-          rw (w.3, w.4)
+      elim c.if-d-ready_of.branch [
+        then-d-ready_of w ↦
+          rw (w.heads-is, w.taken-is)
           (picked_next a.first.now a.count.now a.level.now a.step.now a.n a.run.now a.at.now c.loop-m.m c.best_from-key.result
-          c.ready_of.result c.loop-m.invariant.1 c.best_from-key.ensures c.if-key.false c.ready_of.ensures w.0.taken w.2.ensures))
-          (λ w.
-          rw (w.1, w.2)
+          c.ready_of.result c.loop-m.invariant.1 c.best_from-key.ensures c.if-key.false c.ready_of.ensures w.if-d-ready_of.true w.further.ensures)
+        | else-d-ready_of w ↦
+          rw (w.heads-is, w.taken-is)
           (picked_last a.first.now a.count.now a.level.now a.step.now a.n a.run.now a.at.now c.loop-m.m c.best_from-key.result
-          c.ready_of.result c.loop-m.invariant.1 c.best_from-key.ensures c.if-key.false c.ready_of.ensures w.0.left))
-          c.if-d-ready_of.branch,
+          c.ready_of.result c.loop-m.invariant.1 c.best_from-key.ensures c.if-key.false c.ready_of.ensures w.if-d-ready_of.false)
+      ],
     )
 
 pub returns : goal.returns

@@ -1,9 +1,6 @@
 -- `keep_left` meets its contract. The loop keeps: the first k are replaced.
-use mathlib.Core.Path.{◌≡◌, refl}
-use Prim.Native.Nat.{ℕ, ◌*◌, ◌-◌, ◌≤◌}
+use mathlib.Core.Path.{refl}
 use native.Mathlib.Nat.{le_antisymm}
-use lib.ListN.{get_or}
-use Rattle.window.specs.Entries.{window}
 use Rattle.window.specs.Loops.{replaced}
 use Rattle.window.proofs.LoopLaws.{replaced_more}
 use borrow.Author.Rules.{rules}

@@ -1,11 +1,8 @@
-use mathlib.Core.Path.{◌≡◌, refl}
+use mathlib.Core.Path.{◌≡◌}
 use Prim.Native.Nat.{ℕ, ◌*◌, ◌-◌, ◌≤◌}
-use native.Mathlib.Nat.{le_antisymm}
 use lib.ListN.{get_or}
 use Rattle.window.specs.Entries.{window}
 use Rattle.window.specs.Loops.{replaced}
-use Rattle.window.proofs.LoopLaws.{replaced_more}
-use borrow.Author.Rules.{rules}
 use Rattle.comparing.proofs.keep_left.Given as goal
 
 abbrev pub invariant-loop-k : goal.invariant-loop-k

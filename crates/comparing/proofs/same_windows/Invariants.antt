@@ -1,15 +1,10 @@
-use mathlib.Core.Path.{◌≡◌, refl, sym, ◌∙◌}
-use mathlib.Core.Bool.{Bool, true}
+use mathlib.Core.Path.{◌≡◌}
+use mathlib.Core.Bool.{true}
 use Prim.Native.Nat.{ℕ, ◌-◌, ◌≤◌}
-use native.Mathlib.Omega.{arith}
 use lib.ListN.{get_or}
-use borrow.Author.Tests.{not-true, not-false}
 use Rattle.window.specs.Entries.{no_server}
 use Rattle.window.specs.Loops.{all_below}
 use Rattle.window.specs.Comparing.{same_window}
-use Rattle.window.proofs.LoopLaws.{all_yes}
-use Rattle.comparing.proofs.CompareLaws.{one_differs, each_same}
-use borrow.Author.Rules.{rules}
 use Rattle.comparing.proofs.same_windows.Given as goal
 
 abbrev pub invariant-loop-i : goal.invariant-loop-i

@@ -1,6 +1,5 @@
 -- `count_finish` meets its contract.
 use mathlib.Core.Path.{refl}
-use borrow.Author.Rules.{rules}
 use Rattle.finishing.proofs.count_finish.Goals as goal
 
 pub returns-then-linked : goal.returns-then-linked

@@ -1,11 +1,7 @@
-use mathlib.Core.Path.{◌≡◌, refl, ap}
-use Prim.Native.Nat.{ℕ, suc, ◌+◌, ◌-◌, ◌≤◌}
-use native.Mathlib.Omega.{arith}
-use lib.ListN.{get_or, set}
+use mathlib.Core.Path.{◌≡◌}
+use Prim.Native.Nat.{◌-◌, ◌≤◌}
 use Rattle.window.specs.Loops.{in_turn}
-use Rattle.window.proofs.LoopLaws.{turn_more}
 use Rattle.finishing.proofs.FinishLaws.{moved}
-use borrow.Author.Rules.{rules}
 use Rattle.finishing.proofs.move_down.Given as goal
 
 abbrev pub invariant-loop-d : goal.invariant-loop-d

@@ -3,7 +3,6 @@ use Prim.Native.Nat.{◌+◌, ◌≤◌}
 use native.Mathlib.Omega.{arith}
 use native.Mathlib.Nat.{mul-le-mul_left}
 use Prim.Native.Nat.{◌^◌}
-use borrow.Author.Rules.{rules}
 use Rattle.finishing.proofs.response_of.Goals as goal
 
 pub overflow_mul-to : goal.overflow_mul-to

@@ -1,8 +1,8 @@
 -- `shifted` meets its contract. The loop keeps: the first d slots are replaced.
 use mathlib.Core.Path.{◌≡◌, refl}
-use Prim.Native.Nat.{ℕ, suc, ◌-◌, ◌≤◌}
+use Prim.Native.Nat.{◌-◌}
 use native.Mathlib.Omega.{arith}
-use Rattle.window.specs.Entries.{window, slot_of}
+use Rattle.window.specs.Entries.{window}
 use Rattle.window.specs.Loops.{replaced}
 use Rattle.finishing.proofs.FinishLaws.{shifted_more}
 use borrow.Author.Rules.{rules}

@@ -1,10 +1,7 @@
-use mathlib.Core.Path.{◌≡◌, refl}
+use mathlib.Core.Path.{◌≡◌}
 use Prim.Native.Nat.{ℕ, suc, ◌-◌, ◌≤◌}
-use native.Mathlib.Omega.{arith}
 use Rattle.window.specs.Entries.{window, slot_of}
 use Rattle.window.specs.Loops.{replaced}
-use Rattle.finishing.proofs.FinishLaws.{shifted_more}
-use borrow.Author.Rules.{rules}
 use Rattle.finishing.proofs.shifted.Given as goal
 
 abbrev pub invariant-loop-d : goal.invariant-loop-d

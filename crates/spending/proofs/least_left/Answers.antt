@@ -1,6 +1,5 @@
 -- `least_left` meets its contract. The loop keeps: `least` is that of the first r that run.
-use mathlib.Core.Path.{◌≡◌, refl}
-use Prim.Native.Nat.{◌-◌, ◌≤◌}
+use mathlib.Core.Path.{refl}
 use native.Mathlib.Nat.{le_antisymm}
 use Rattle.window.specs.Spending.{least_left}
 use Rattle.spending.proofs.SpendLaws.{least_more}

@@ -1,9 +1,6 @@
-use mathlib.Core.Path.{◌≡◌, refl}
+use mathlib.Core.Path.{◌≡◌}
 use Prim.Native.Nat.{◌-◌, ◌≤◌}
-use native.Mathlib.Nat.{le_antisymm}
 use Rattle.window.specs.Spending.{least_left}
-use Rattle.spending.proofs.SpendLaws.{least_more}
-use borrow.Author.Rules.{rules}
 use Rattle.spending.proofs.least_left.Given as goal
 
 abbrev pub invariant-loop-r : goal.invariant-loop-r

@@ -1,6 +1,5 @@
 -- `spend` meets its contract. The loop keeps: the first r that run have used their ticks.
-use mathlib.Core.Path.{◌≡◌, refl}
-use Prim.Native.Nat.{◌-◌, ◌≤◌}
+use mathlib.Core.Path.{refl}
 use native.Mathlib.Nat.{le_antisymm}
 use Rattle.window.specs.Spending.{spent}
 use Rattle.spending.proofs.SpendLaws.{spent_more}

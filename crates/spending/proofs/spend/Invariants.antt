@@ -1,9 +1,6 @@
-use mathlib.Core.Path.{◌≡◌, refl}
+use mathlib.Core.Path.{◌≡◌}
 use Prim.Native.Nat.{◌-◌, ◌≤◌}
-use native.Mathlib.Nat.{le_antisymm}
 use Rattle.window.specs.Spending.{spent}
-use Rattle.spending.proofs.SpendLaws.{spent_more}
-use borrow.Author.Rules.{rules}
 use Rattle.spending.proofs.spend.Given as goal
 
 abbrev pub invariant-loop-r : goal.invariant-loop-r

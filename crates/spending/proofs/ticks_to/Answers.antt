@@ -1,6 +1,5 @@
 -- `ticks_to` meets its contract.
 use Rattle.spending.proofs.SpendLaws.{ticks_before, ticks_past}
-use borrow.Author.Rules.{rules}
 use Rattle.spending.proofs.ticks_to.Goals as goal
 
 pub returns-then-t-to : goal.returns-then-t-to

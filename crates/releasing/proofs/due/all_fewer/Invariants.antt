@@ -1,11 +1,7 @@
-use mathlib.Core.Path.{◌≡◌, refl, sym, ap, ◌∙◌}
-use Prim.Native.Nat.{ℕ, ◌^◌, ◌<◌}
-use native.Mathlib.Omega.{arith}
-use borrow.Author.Rules.{rules}
+use mathlib.Core.Path.{◌≡◌}
+use Prim.Native.Nat.{◌^◌, ◌<◌}
 use Rattle.numbers.specs.Masks.{width, ones}
-use Rattle.numbers.proofs.Counts.{ones_without, some_set, none_set}
 use Rattle.window.specs.Releasing.{all_fewer}
-use Rattle.releasing.proofs.ReleaseLaws.{fewer_none, fewer_no, fewer_yes, low_place, low_set}
 use Rattle.releasing.proofs.due.all_fewer.Given as goal
 
 abbrev pub invariant-loop-left : goal.invariant-loop-left

@@ -1,5 +1,4 @@
 -- `pushed` meets its contract, by its test.
-use borrow.Author.Rules.{rules}
 use borrow.Author.Tests.{eq-eqb, ne_eqb}
 use Rattle.releasing.proofs.entering.pushed.Goals as goal
 

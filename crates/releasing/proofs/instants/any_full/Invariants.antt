@@ -1,12 +1,6 @@
-use mathlib.Core.Path.{◌≡◌, refl, ◌∙◌}
-use mathlib.Core.Logic.{⊎_elim, inl, inr}
+use mathlib.Core.Path.{◌≡◌}
 use Prim.Native.Nat.{◌-◌, ◌≤◌}
-use native.Mathlib.Nat.{le_antisymm}
-use Rattle.window.specs.Loops.{some_below}
-use Rattle.window.specs.Releasing.{full_at, any_full}
-use Rattle.window.proofs.LoopLaws.{some_yes, some_no}
-use Rattle.releasing.proofs.ReleaseLaws.{full_yes, full_not, full_later}
-use borrow.Author.Rules.{rules}
+use Rattle.window.specs.Releasing.{any_full}
 use Rattle.releasing.proofs.instants.any_full.Given as goal
 
 abbrev pub invariant-loop-i : goal.invariant-loop-i

@@ -1,12 +1,11 @@
 -- `earliest` meets its contract. The loop keeps: `least` is the earliest of the first i.
-use mathlib.Core.Path.{◌≡◌, refl, ◌∙◌}
-use mathlib.Core.Logic.{⊎_elim}
-use Prim.Native.Nat.{◌-◌, ◌≤◌}
+use mathlib.Core.Path.{refl, ◌∙◌}
 use native.Mathlib.Nat.{le_antisymm}
 use Rattle.window.specs.Releasing.{earliest}
 use Rattle.releasing.proofs.ReleaseLaws.{earliest_now, earliest_before}
 use borrow.Author.Rules.{rules}
 use Rattle.releasing.proofs.instants.earliest.Goals as goal
+use Rattle.releasing.proofs.instants.earliest.Goals.{then-next-i, else-next-i}
 
 pub loop-i-init : goal.loop-i-init
 unfolding earliest
@@ -16,8 +15,10 @@ pub loop-i-preserved : goal.loop-i-preserved
 loop-i-preserved c =
     let next = c.args.next.now in (
       search rules,
-      ⊎_elim (λ w. w.2 ∙ earliest_now next c.loop-i.i c.loop-i.invariant.1 w.0.taken)
-          (λ w. w.1 ∙ earliest_before next c.loop-i.i c.loop-i.invariant.1 w.0.left) c.if-next-i.branch,
+      elim c.if-next-i.branch [
+        then-next-i w ↦ w.least-is ∙ earliest_now next c.loop-i.i c.loop-i.invariant.1 w.if-next-i.true
+        | else-next-i w ↦ w.least-is ∙ earliest_before next c.loop-i.i c.loop-i.invariant.1 w.if-next-i.false
+      ],
     )
 
 pub returns : goal.returns

@@ -1,10 +1,6 @@
-use mathlib.Core.Path.{◌≡◌, refl, ◌∙◌}
-use mathlib.Core.Logic.{⊎_elim}
+use mathlib.Core.Path.{◌≡◌}
 use Prim.Native.Nat.{◌-◌, ◌≤◌}
-use native.Mathlib.Nat.{le_antisymm}
 use Rattle.window.specs.Releasing.{earliest}
-use Rattle.releasing.proofs.ReleaseLaws.{earliest_now, earliest_before}
-use borrow.Author.Rules.{rules}
 use Rattle.releasing.proofs.instants.earliest.Given as goal
 
 abbrev pub invariant-loop-i : goal.invariant-loop-i

@@ -1,6 +1,5 @@
 -- `releases` meets its contract: the second test counts where the first passes.
 use borrow.Author.Tests.{eq-eqb, ne_eqb}
-use borrow.Author.Rules.{rules}
 use Rattle.releasing.proofs.instants.releases.Goals as goal
 
 pub returns-then-next-i : goal.returns-then-next-i
