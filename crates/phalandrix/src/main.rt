@@ -68,7 +68,7 @@ fn put_error(error: io::Error, room: &mut [u8]) -> usize
     let size = room.len();
     let mut left: &mut [u8] = &mut *room;
     let _ = write!(left, "{error}");
-    size - left.len()
+    size.saturating_sub(left.len())
 }
 
 // The system's word for an error, without the number that the library puts behind it.
