@@ -6,7 +6,7 @@ use mathlib.Core.Logic.{◌⊎◌}
 use Prim.Native.Nat.{ℕ, ◌+◌, ◌^◌, ◌≤◌, ◌<◌}
 use native.Mathlib.Numerals.{add-one}
 use native.Mathlib.Omega.{arith}
-use lib.Dec.{ltb, leb, eqb}
+use lib.Dec.{ltb, eqb}
 use lib.ListN.{get_or, set}
 use borrow.Author.Tests.{lt-ltb, le-ltb, le-leb, lt-leb, eq-eqb, ne_eqb, eqb-true}
 use Rattle.numbers.specs.Masks.{width, bit, without, lowest}
@@ -29,14 +29,14 @@ module _ (next : List ℕ) (i : ℕ) {least : ℕ} (e : least ≡ earliest next 
 
 -- one more at place i would be a backlog, or not
 module _ (next count unfinished room : List ℕ) (t i : ℕ) where
-  pub full_yes : get_or next i 0 ≡ t → (window ≤ get_or count i 0) ⊎ ((get_or count i 0 < window) × (leb (get_or room i 0) (get_or unfinished i 0) ≡ true))
+  pub full_yes : get_or next i 0 ≡ t → (window ≤ get_or count i 0) ⊎ ((get_or count i 0 < window) × (get_or room i 0 ≤ get_or unfinished i 0))
       → full_at next count unfinished room t i ≡ true
   full_yes e h =
       either_way h (λ x. rw (eq-eqb (get_or next i 0) t e, le-leb window (get_or count i 0) x))
-      (λ x. rw (eq-eqb (get_or next i 0) t e, lt-leb window (get_or count i 0) x.0, x.1))
+      (λ x. rw (eq-eqb (get_or next i 0) t e, lt-leb window (get_or count i 0) x.0, le-leb (get_or room i 0) (get_or unfinished i 0) x.1))
 
-  pub full_not : get_or next i 0 ≡ t → get_or count i 0 < window → leb (get_or room i 0) (get_or unfinished i 0) ≡ false → full_at next count unfinished room t i ≡ false
-  full_not e h l = rw (eq-eqb (get_or next i 0) t e, lt-leb window (get_or count i 0) h, l)
+  pub full_not : get_or next i 0 ≡ t → get_or count i 0 < window → get_or unfinished i 0 < get_or room i 0 → full_at next count unfinished room t i ≡ false
+  full_not e h l = rw (eq-eqb (get_or next i 0) t e, lt-leb window (get_or count i 0) h, lt-leb (get_or room i 0) (get_or unfinished i 0) l)
 
   pub full_later : (get_or next i 0 ≡ t → ⊥) → full_at next count unfinished room t i ≡ false
   full_later e = rw (ne_eqb (get_or next i 0) t e)

@@ -25,5 +25,5 @@ returns-in-Number c =
     let range = (key_at c.args.k).range in
     let (w, e, f) = image_read kept (number (drop c.args.at c.args.s.now)) c.in-Number.v rest (sym (ap (scanned_of c.args.s.now) c.in-Number.is) ∙ c.number_at.ensures) in
     rw e
-    (c.closed_at.ensures ∙ ap (λ (b : Bool). judge_by same (always b) (drop c.args.at c.args.s.now) (closed c.in-Number.v rest)) c.is_Within.ensures
+    (c.closed_at.ensures ∙ ap (λ (b : Bool). judge_by same (always b) (drop c.args.at c.args.s.now) (closed c.in-Number.v rest)) c.is_within.ensures
     ∙ ap (λ (x : ℕ). judge_by same (always (within range x)) (drop c.args.at c.args.s.now) (closed x rest)) f ∙ closed_number range w (drop c.args.at c.args.s.now) rest (limit_near c.args.k))

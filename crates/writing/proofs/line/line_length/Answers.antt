@@ -15,7 +15,8 @@ overflow_add-result-3 c = omega (arith, c.digits.ensures.within, c.well_formed.0
 
 pub returns : goal.returns
 returns c =
+    let a = c.args in
     record {
-      size = omega (arith, c.digits.ensures.size, length-append c.args.name.now (equals ∷ ended c.args.v line_feed), length-append (decimal c.args.v) (line_feed ∷ []));
+      size = omega (arith, c.digits.ensures.size, length-append a.name.now (equals ∷ ended a.v line_feed), length-append (decimal a.v) (line_feed ∷ []));
       within = omega (arith, c.digits.ensures.within);
     }

@@ -27,13 +27,16 @@ loop-i-smaller c = omega arith
 
 pub loop-i-preserved : goal.loop-i-preserved
 loop-i-preserved c =
-    let inside : c.loop-i.i < length c.args.text.now = omega arith in (
+    let text = c.args.text.now in
+    let l = c.loop-i in
+    let inside : l.i < length text = omega arith in (
       omega arith,
-      simp length-set c.loop-i.invariant.1,
-      named (sym (ap (λ (k : ℕ). take k c.args.text.now) (add-one c.loop-i.i) ∙ take-suc c.args.text.now c.loop-i.i 0 inside))
-          (then_byte c.loop-i.invariant.2 (get_or c.args.text.now c.loop-i.i 0) (omega (arith, length-take-le c.loop-i.i c.args.text.now c.loop-i.invariant.0))),
+      simp length-set l.invariant.1,
+      named (sym (ap (λ (k : ℕ). take k text) (add-one l.i) ∙ take-suc text l.i 0 inside))
+          (then_byte l.invariant.2 (get_or text l.i 0) (omega (arith, length-take-le l.i text l.invariant.0))),
     )
 
 pub returns : goal.returns
 returns c =
-    named (take_all c.loop-i.i c.args.text.now c.loop-i-test.false) c.loop-i.invariant.2
+    let l = c.loop-i in
+    named (take_all l.i c.args.text.now c.loop-i-test.false) l.invariant.2

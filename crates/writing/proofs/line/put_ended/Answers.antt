@@ -12,7 +12,8 @@ put_number-n-requires c =  omega (arith, length-append (decimal c.args.v) (c.arg
 
 pub bounds-part-n : goal.bounds-part-n
 bounds-part-n c =
-    omega (arith, length-append (decimal c.args.v) (c.args.end ∷ []), c.requires, c.put_number-n.ensures.size, c.put_number-n.auto.part)
+    let p = c.put_number-n in
+    omega (arith, length-append (decimal c.args.v) (c.args.end ∷ []), c.requires, p.ensures.size, p.auto.part)
 
 pub overflow_add-result : goal.overflow_add-result
 overflow_add-result c =

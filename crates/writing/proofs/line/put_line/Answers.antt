@@ -24,21 +24,27 @@ put_bytes-n-requires c =
 
 pub bounds-part-n : goal.bounds-part-n
 bounds-part-n c =
-    omega (arith, length-append c.args.name.now (equals ∷ ended c.args.v line_feed), c.requires, c.put_bytes-n.ensures.size, c.put_bytes-n.auto.part)
+    let p = c.put_bytes-n in
+    omega (arith, length-append c.args.name.now (equals ∷ ended c.args.v line_feed), c.requires, p.ensures.size, p.auto.part)
 
 pub slice_bounds-put_ended-count : goal.slice_bounds-put_ended-count
 slice_bounds-put_ended-count c =
-    begins (ended c.args.v line_feed) (with-equals c.args.v c.put_bytes-n.ensures c.requires) (fit-both c.args.v c.put_bytes-n.ensures c.requires)
+    let p = c.put_bytes-n in
+    begins (ended c.args.v line_feed) (with-equals c.args.v p.ensures c.requires) (fit-both c.args.v p.ensures c.requires)
 
 pub put_ended-requires : goal.put_ended-requires
 put_ended-requires c =
-    room (ended c.args.v line_feed) (with-equals c.args.v c.put_bytes-n.ensures c.requires) (fit-both c.args.v c.put_bytes-n.ensures c.requires)
+    let p = c.put_bytes-n in
+    room (ended c.args.v line_feed) (with-equals c.args.v p.ensures c.requires) (fit-both c.args.v p.ensures c.requires)
 
 pub overflow_add-result : goal.overflow_add-result
 overflow_add-result c =
-    omega (arith, (with-equals c.args.v c.put_bytes-n.ensures c.requires).size, c.put_ended.ensures.size, fit-both c.args.v c.put_bytes-n.ensures c.requires, c.well_formed.0.0)
+    let p = c.put_bytes-n in
+    let e = c.put_ended.ensures in
+    omega (arith, (with-equals c.args.v p.ensures c.requires).size, e.size, fit-both c.args.v p.ensures c.requires, c.well_formed.0.0)
 
 pub returns : goal.returns
 returns c =
+    let p = c.put_bytes-n in
     named (append_snoc c.args.name.now equals (ended c.args.v line_feed))
-    (both (ended c.args.v line_feed) (with-equals c.args.v c.put_bytes-n.ensures c.requires) (fit-both c.args.v c.put_bytes-n.ensures c.requires) c.put_ended.ensures)
+    (both (ended c.args.v line_feed) (with-equals c.args.v p.ensures c.requires) (fit-both c.args.v p.ensures c.requires) c.put_ended.ensures)

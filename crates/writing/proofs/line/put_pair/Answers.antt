@@ -14,16 +14,21 @@ put_ended-at-requires c =
 
 pub slice_bounds-put_ended-count : goal.slice_bounds-put_ended-count
 slice_bounds-put_ended-count c =
-    begins (ended c.args.x c.args.end) c.put_ended-at.ensures ((let it : length (ended c.args.v comma) + length (ended c.args.x c.args.end) ≤ length c.args.part.now = apart (ended c.args.v comma) (ended c.args.x c.args.end) c.args.part.now c.requires in it))
+    let p = c.put_ended-at in
+    begins (ended c.args.x c.args.end) p.ensures ((let it : length (ended c.args.v comma) + length (ended c.args.x c.args.end) ≤ length c.args.part.now = apart (ended c.args.v comma) (ended c.args.x c.args.end) c.args.part.now c.requires in it))
 
 pub put_ended-requires : goal.put_ended-requires
 put_ended-requires c =
-    room (ended c.args.x c.args.end) c.put_ended-at.ensures ((let it : length (ended c.args.v comma) + length (ended c.args.x c.args.end) ≤ length c.args.part.now = apart (ended c.args.v comma) (ended c.args.x c.args.end) c.args.part.now c.requires in it))
+    let p = c.put_ended-at in
+    room (ended c.args.x c.args.end) p.ensures ((let it : length (ended c.args.v comma) + length (ended c.args.x c.args.end) ≤ length c.args.part.now = apart (ended c.args.v comma) (ended c.args.x c.args.end) c.args.part.now c.requires in it))
 
 pub overflow_add-result : goal.overflow_add-result
 overflow_add-result c =
-    omega (arith, c.put_ended-at.ensures.size, c.put_ended.ensures.size, (let it : length (ended c.args.v comma) + length (ended c.args.x c.args.end) ≤ length c.args.part.now = apart (ended c.args.v comma) (ended c.args.x c.args.end) c.args.part.now c.requires in it), c.well_formed.0.0)
+    let p = c.put_ended-at in
+    let q = c.put_ended in
+    omega (arith, p.ensures.size, q.ensures.size, (let it : length (ended c.args.v comma) + length (ended c.args.x c.args.end) ≤ length c.args.part.now = apart (ended c.args.v comma) (ended c.args.x c.args.end) c.args.part.now c.requires in it), c.well_formed.0.0)
 
 pub returns : goal.returns
 returns c =
-    both (ended c.args.x c.args.end) c.put_ended-at.ensures ((let it : length (ended c.args.v comma) + length (ended c.args.x c.args.end) ≤ length c.args.part.now = apart (ended c.args.v comma) (ended c.args.x c.args.end) c.args.part.now c.requires in it)) c.put_ended.ensures
+    let p = c.put_ended-at in
+    both (ended c.args.x c.args.end) p.ensures ((let it : length (ended c.args.v comma) + length (ended c.args.x c.args.end) ≤ length c.args.part.now = apart (ended c.args.v comma) (ended c.args.x c.args.end) c.args.part.now c.requires in it)) c.put_ended.ensures

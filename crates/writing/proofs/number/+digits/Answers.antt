@@ -18,5 +18,6 @@ returns-then-v-lt10 t c = record { size = sym (digits_one c.args.v c.if-v-lt10.t
 
 pub returns-else-v-lt10 : goal.returns-else-v-lt10
 returns-else-v-lt10 t c =
-    let e : c.digits.result + 1 ≡ length (decimal c.args.v) = ap (λ (k : ℕ). k + 1) c.digits.ensures.size ∙ sym (digits_more c.args.v c.if-v-lt10.false) in
-    record { size = e; within = omega (arith, digits_most 9 c.args.v (omega (arith, c.ranges.v))) }
+    let v = c.args.v in
+    let e : c.digits.result + 1 ≡ length (decimal v) = ap (λ (k : ℕ). k + 1) c.digits.ensures.size ∙ sym (digits_more v c.if-v-lt10.false) in
+    record { size = e; within = omega (arith, digits_most 9 v (omega (arith, c.ranges.v))) }

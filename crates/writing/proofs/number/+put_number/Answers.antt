@@ -21,8 +21,9 @@ bounds-part-0 t c = omega (arith, digits_one c.args.v c.if-v-lt10.true, c.requir
 
 pub returns-then-v-lt10 : goal.returns-then-v-lt10
 returns-then-v-lt10 t c =
-    named (sym (decimal_one c.args.v c.if-v-lt10.true))
-    (then_byte (nothing c.args.part.now) (digit_zero + c.args.v) (omega (arith, digits_one c.args.v c.if-v-lt10.true, c.requires)))
+    let a = c.args in
+    named (sym (decimal_one a.v c.if-v-lt10.true))
+    (then_byte (nothing a.part.now) (digit_zero + a.v) (omega (arith, digits_one a.v c.if-v-lt10.true, c.requires)))
 
 pub put_number-n-requires : goal.put_number-n-requires
 put_number-n-requires t c =

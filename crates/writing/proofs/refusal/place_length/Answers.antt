@@ -14,9 +14,10 @@ overflow_add-result c = omega (arith, c.line_length.ensures.within, c.line_lengt
 
 pub returns : goal.returns
 returns c =
+    let r = c.args.r in
     let first = c.line_length.ensures.size ∙ ap (λ (k : ℕ). length (line (bytes "line") k)) c.line_of.ensures in
     let second = c.line_length-2.ensures.size ∙ ap (λ (k : ℕ). length (line (bytes "column") k)) c.column_of.ensures in
     record {
-      size = omega (arith, length-append (line (bytes "line") (line_of c.args.r)) (line (bytes "column") (column_of c.args.r)), first, second);
+      size = omega (arith, length-append (line (bytes "line") (line_of r)) (line (bytes "column") (column_of r)), first, second);
       within = omega (arith, c.line_length.ensures.within, c.line_length-2.ensures.within);
     }

@@ -16,8 +16,9 @@ overflow_add-result c = omega (arith, c.line_length.ensures.within, c.place_leng
 pub returns : goal.returns
 unfolding printed answer_line
 returns c =
+    let r = c.args.r in
     let first = c.line_length.ensures.size ∙ ap (λ (k : ℕ). length (line (bytes "answer") k)) c.number_of.ensures in
     record {
-      size = omega (arith, length-append (line (bytes "answer") (number_of c.args.r)) (placed c.args.r), first, c.place_length.ensures.size);
+      size = omega (arith, length-append (line (bytes "answer") (number_of r)) (placed r), first, c.place_length.ensures.size);
       within = omega (arith, c.line_length.ensures.within, c.place_length.ensures.within);
     }

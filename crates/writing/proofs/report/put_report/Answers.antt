@@ -35,25 +35,29 @@ put_line-round_at-requires c =
 
 pub slice_bounds-put_line-count : goal.slice_bounds-put_line-count
 slice_bounds-put_line-count c =
-    begins (round-line c.args.round) c.put_line-round_at.ensures ((let it : length answer-line + length (round-line c.args.round) ≤ length c.args.buf.now = omega (arith, (let it : length (answer-line ++ round-line c.args.round) + length (ticks-line c.args.ticks) ≤ length c.args.buf.now = omega (arith, (let it : length ((answer-line ++ round-line c.args.round) ++ ticks-line c.args.ticks) + length ((let it : List ℕ = response_lines (take c.args.graphs c.args.figures) in it)) ≤ length c.args.buf.now = let before : List ℕ = (answer-line ++ round-line c.args.round) ++ ticks-line c.args.ticks in
+    let first = c.put_line-round_at.ensures in
+    begins (round-line c.args.round) first ((let it : length answer-line + length (round-line c.args.round) ≤ length c.args.buf.now = omega (arith, (let it : length (answer-line ++ round-line c.args.round) + length (ticks-line c.args.ticks) ≤ length c.args.buf.now = omega (arith, (let it : length ((answer-line ++ round-line c.args.round) ++ ticks-line c.args.ticks) + length ((let it : List ℕ = response_lines (take c.args.graphs c.args.figures) in it)) ≤ length c.args.buf.now = let before : List ℕ = (answer-line ++ round-line c.args.round) ++ ticks-line c.args.ticks in
     let whole = report_is c.args.round c.args.ticks (take c.args.graphs c.args.figures) in
     omega (arith, ap length whole, length-append before ((let it : List ℕ = response_lines (take c.args.graphs c.args.figures) in it)), c.requires.figures_in_bounds) in it), length-append (answer-line ++ round-line c.args.round) (ticks-line c.args.ticks)) in it), length-append answer-line (round-line c.args.round)) in it))
 
 pub put_line-requires : goal.put_line-requires
 put_line-requires c =
-    room (round-line c.args.round) c.put_line-round_at.ensures ((let it : length answer-line + length (round-line c.args.round) ≤ length c.args.buf.now = omega (arith, (let it : length (answer-line ++ round-line c.args.round) + length (ticks-line c.args.ticks) ≤ length c.args.buf.now = omega (arith, (let it : length ((answer-line ++ round-line c.args.round) ++ ticks-line c.args.ticks) + length ((let it : List ℕ = response_lines (take c.args.graphs c.args.figures) in it)) ≤ length c.args.buf.now = let before : List ℕ = (answer-line ++ round-line c.args.round) ++ ticks-line c.args.ticks in
+    let first = c.put_line-round_at.ensures in
+    room (round-line c.args.round) first ((let it : length answer-line + length (round-line c.args.round) ≤ length c.args.buf.now = omega (arith, (let it : length (answer-line ++ round-line c.args.round) + length (ticks-line c.args.ticks) ≤ length c.args.buf.now = omega (arith, (let it : length ((answer-line ++ round-line c.args.round) ++ ticks-line c.args.ticks) + length ((let it : List ℕ = response_lines (take c.args.graphs c.args.figures) in it)) ≤ length c.args.buf.now = let before : List ℕ = (answer-line ++ round-line c.args.round) ++ ticks-line c.args.ticks in
     let whole = report_is c.args.round c.args.ticks (take c.args.graphs c.args.figures) in
     omega (arith, ap length whole, length-append before ((let it : List ℕ = response_lines (take c.args.graphs c.args.figures) in it)), c.requires.figures_in_bounds) in it), length-append (answer-line ++ round-line c.args.round) (ticks-line c.args.ticks)) in it), length-append answer-line (round-line c.args.round)) in it))
 
 pub overflow_add-ticks_at : goal.overflow_add-ticks_at
 overflow_add-ticks_at c =
-    omega (arith, c.put_line-round_at.ensures.size, c.put_line.ensures.size, (let it : length answer-line + length (round-line c.args.round) ≤ length c.args.buf.now = omega (arith, (let it : length (answer-line ++ round-line c.args.round) + length (ticks-line c.args.ticks) ≤ length c.args.buf.now = omega (arith, (let it : length ((answer-line ++ round-line c.args.round) ++ ticks-line c.args.ticks) + length ((let it : List ℕ = response_lines (take c.args.graphs c.args.figures) in it)) ≤ length c.args.buf.now = let before : List ℕ = (answer-line ++ round-line c.args.round) ++ ticks-line c.args.ticks in
+    let first = c.put_line-round_at.ensures in
+    omega (arith, first.size, c.put_line.ensures.size, (let it : length answer-line + length (round-line c.args.round) ≤ length c.args.buf.now = omega (arith, (let it : length (answer-line ++ round-line c.args.round) + length (ticks-line c.args.ticks) ≤ length c.args.buf.now = omega (arith, (let it : length ((answer-line ++ round-line c.args.round) ++ ticks-line c.args.ticks) + length ((let it : List ℕ = response_lines (take c.args.graphs c.args.figures) in it)) ≤ length c.args.buf.now = let before : List ℕ = (answer-line ++ round-line c.args.round) ++ ticks-line c.args.ticks in
     let whole = report_is c.args.round c.args.ticks (take c.args.graphs c.args.figures) in
     omega (arith, ap length whole, length-append before ((let it : List ℕ = response_lines (take c.args.graphs c.args.figures) in it)), c.requires.figures_in_bounds) in it), length-append (answer-line ++ round-line c.args.round) (ticks-line c.args.ticks)) in it), length-append answer-line (round-line c.args.round)) in it), c.well_formed.0.0)
 
 pub slice_bounds-put_line-count-2 : goal.slice_bounds-put_line-count-2
 slice_bounds-put_line-count-2 c =
-    let second = both (round-line c.args.round) c.put_line-round_at.ensures ((let it : length answer-line + length (round-line c.args.round) ≤ length c.args.buf.now = omega (arith, (let it : length (answer-line ++ round-line c.args.round) + length (ticks-line c.args.ticks) ≤ length c.args.buf.now = omega (arith, (let it : length ((answer-line ++ round-line c.args.round) ++ ticks-line c.args.ticks) + length ((let it : List ℕ = response_lines (take c.args.graphs c.args.figures) in it)) ≤ length c.args.buf.now = let before : List ℕ = (answer-line ++ round-line c.args.round) ++ ticks-line c.args.ticks in
+    let first = c.put_line-round_at.ensures in
+    let second = both (round-line c.args.round) first ((let it : length answer-line + length (round-line c.args.round) ≤ length c.args.buf.now = omega (arith, (let it : length (answer-line ++ round-line c.args.round) + length (ticks-line c.args.ticks) ≤ length c.args.buf.now = omega (arith, (let it : length ((answer-line ++ round-line c.args.round) ++ ticks-line c.args.ticks) + length ((let it : List ℕ = response_lines (take c.args.graphs c.args.figures) in it)) ≤ length c.args.buf.now = let before : List ℕ = (answer-line ++ round-line c.args.round) ++ ticks-line c.args.ticks in
     let whole = report_is c.args.round c.args.ticks (take c.args.graphs c.args.figures) in
     omega (arith, ap length whole, length-append before ((let it : List ℕ = response_lines (take c.args.graphs c.args.figures) in it)), c.requires.figures_in_bounds) in it), length-append (answer-line ++ round-line c.args.round) (ticks-line c.args.ticks)) in it), length-append answer-line (round-line c.args.round)) in it)) c.put_line.ensures in
     begins (ticks-line c.args.ticks) second ((let it : length (answer-line ++ round-line c.args.round) + length (ticks-line c.args.ticks) ≤ length c.args.buf.now = omega (arith, (let it : length ((answer-line ++ round-line c.args.round) ++ ticks-line c.args.ticks) + length ((let it : List ℕ = response_lines (take c.args.graphs c.args.figures) in it)) ≤ length c.args.buf.now = let before : List ℕ = (answer-line ++ round-line c.args.round) ++ ticks-line c.args.ticks in
@@ -62,7 +66,8 @@ slice_bounds-put_line-count-2 c =
 
 pub put_line-requires-2 : goal.put_line-requires-2
 put_line-requires-2 c =
-    let second = both (round-line c.args.round) c.put_line-round_at.ensures ((let it : length answer-line + length (round-line c.args.round) ≤ length c.args.buf.now = omega (arith, (let it : length (answer-line ++ round-line c.args.round) + length (ticks-line c.args.ticks) ≤ length c.args.buf.now = omega (arith, (let it : length ((answer-line ++ round-line c.args.round) ++ ticks-line c.args.ticks) + length ((let it : List ℕ = response_lines (take c.args.graphs c.args.figures) in it)) ≤ length c.args.buf.now = let before : List ℕ = (answer-line ++ round-line c.args.round) ++ ticks-line c.args.ticks in
+    let first = c.put_line-round_at.ensures in
+    let second = both (round-line c.args.round) first ((let it : length answer-line + length (round-line c.args.round) ≤ length c.args.buf.now = omega (arith, (let it : length (answer-line ++ round-line c.args.round) + length (ticks-line c.args.ticks) ≤ length c.args.buf.now = omega (arith, (let it : length ((answer-line ++ round-line c.args.round) ++ ticks-line c.args.ticks) + length ((let it : List ℕ = response_lines (take c.args.graphs c.args.figures) in it)) ≤ length c.args.buf.now = let before : List ℕ = (answer-line ++ round-line c.args.round) ++ ticks-line c.args.ticks in
     let whole = report_is c.args.round c.args.ticks (take c.args.graphs c.args.figures) in
     omega (arith, ap length whole, length-append before ((let it : List ℕ = response_lines (take c.args.graphs c.args.figures) in it)), c.requires.figures_in_bounds) in it), length-append (answer-line ++ round-line c.args.round) (ticks-line c.args.ticks)) in it), length-append answer-line (round-line c.args.round)) in it)) c.put_line.ensures in
     room (ticks-line c.args.ticks) second ((let it : length (answer-line ++ round-line c.args.round) + length (ticks-line c.args.ticks) ≤ length c.args.buf.now = omega (arith, (let it : length ((answer-line ++ round-line c.args.round) ++ ticks-line c.args.ticks) + length ((let it : List ℕ = response_lines (take c.args.graphs c.args.figures) in it)) ≤ length c.args.buf.now = let before : List ℕ = (answer-line ++ round-line c.args.round) ++ ticks-line c.args.ticks in
@@ -71,7 +76,8 @@ put_line-requires-2 c =
 
 pub overflow_add-responses_at : goal.overflow_add-responses_at
 overflow_add-responses_at c =
-    let second = both (round-line c.args.round) c.put_line-round_at.ensures ((let it : length answer-line + length (round-line c.args.round) ≤ length c.args.buf.now = omega (arith, (let it : length (answer-line ++ round-line c.args.round) + length (ticks-line c.args.ticks) ≤ length c.args.buf.now = omega (arith, (let it : length ((answer-line ++ round-line c.args.round) ++ ticks-line c.args.ticks) + length ((let it : List ℕ = response_lines (take c.args.graphs c.args.figures) in it)) ≤ length c.args.buf.now = let before : List ℕ = (answer-line ++ round-line c.args.round) ++ ticks-line c.args.ticks in
+    let first = c.put_line-round_at.ensures in
+    let second = both (round-line c.args.round) first ((let it : length answer-line + length (round-line c.args.round) ≤ length c.args.buf.now = omega (arith, (let it : length (answer-line ++ round-line c.args.round) + length (ticks-line c.args.ticks) ≤ length c.args.buf.now = omega (arith, (let it : length ((answer-line ++ round-line c.args.round) ++ ticks-line c.args.ticks) + length ((let it : List ℕ = response_lines (take c.args.graphs c.args.figures) in it)) ≤ length c.args.buf.now = let before : List ℕ = (answer-line ++ round-line c.args.round) ++ ticks-line c.args.ticks in
     let whole = report_is c.args.round c.args.ticks (take c.args.graphs c.args.figures) in
     omega (arith, ap length whole, length-append before ((let it : List ℕ = response_lines (take c.args.graphs c.args.figures) in it)), c.requires.figures_in_bounds) in it), length-append (answer-line ++ round-line c.args.round) (ticks-line c.args.ticks)) in it), length-append answer-line (round-line c.args.round)) in it)) c.put_line.ensures in
     omega (arith, second.size, c.put_line-2.ensures.size, (let it : length (answer-line ++ round-line c.args.round) + length (ticks-line c.args.ticks) ≤ length c.args.buf.now = omega (arith, (let it : length ((answer-line ++ round-line c.args.round) ++ ticks-line c.args.ticks) + length ((let it : List ℕ = response_lines (take c.args.graphs c.args.figures) in it)) ≤ length c.args.buf.now = let before : List ℕ = (answer-line ++ round-line c.args.round) ++ ticks-line c.args.ticks in
@@ -80,7 +86,8 @@ overflow_add-responses_at c =
 
 pub slice_bounds-put_responses-count : goal.slice_bounds-put_responses-count
 slice_bounds-put_responses-count c =
-    let second = both (round-line c.args.round) c.put_line-round_at.ensures ((let it : length answer-line + length (round-line c.args.round) ≤ length c.args.buf.now = omega (arith, (let it : length (answer-line ++ round-line c.args.round) + length (ticks-line c.args.ticks) ≤ length c.args.buf.now = omega (arith, (let it : length ((answer-line ++ round-line c.args.round) ++ ticks-line c.args.ticks) + length ((let it : List ℕ = response_lines (take c.args.graphs c.args.figures) in it)) ≤ length c.args.buf.now = let before : List ℕ = (answer-line ++ round-line c.args.round) ++ ticks-line c.args.ticks in
+    let first = c.put_line-round_at.ensures in
+    let second = both (round-line c.args.round) first ((let it : length answer-line + length (round-line c.args.round) ≤ length c.args.buf.now = omega (arith, (let it : length (answer-line ++ round-line c.args.round) + length (ticks-line c.args.ticks) ≤ length c.args.buf.now = omega (arith, (let it : length ((answer-line ++ round-line c.args.round) ++ ticks-line c.args.ticks) + length ((let it : List ℕ = response_lines (take c.args.graphs c.args.figures) in it)) ≤ length c.args.buf.now = let before : List ℕ = (answer-line ++ round-line c.args.round) ++ ticks-line c.args.ticks in
     let whole = report_is c.args.round c.args.ticks (take c.args.graphs c.args.figures) in
     omega (arith, ap length whole, length-append before ((let it : List ℕ = response_lines (take c.args.graphs c.args.figures) in it)), c.requires.figures_in_bounds) in it), length-append (answer-line ++ round-line c.args.round) (ticks-line c.args.ticks)) in it), length-append answer-line (round-line c.args.round)) in it)) c.put_line.ensures in
     let third = both (ticks-line c.args.ticks) second ((let it : length (answer-line ++ round-line c.args.round) + length (ticks-line c.args.ticks) ≤ length c.args.buf.now = omega (arith, (let it : length ((answer-line ++ round-line c.args.round) ++ ticks-line c.args.ticks) + length ((let it : List ℕ = response_lines (take c.args.graphs c.args.figures) in it)) ≤ length c.args.buf.now = let before : List ℕ = (answer-line ++ round-line c.args.round) ++ ticks-line c.args.ticks in
@@ -92,19 +99,21 @@ slice_bounds-put_responses-count c =
 
 pub put_responses-requires : goal.put_responses-requires
 put_responses-requires c =
-    let second = both (round-line c.args.round) c.put_line-round_at.ensures ((let it : length answer-line + length (round-line c.args.round) ≤ length c.args.buf.now = omega (arith, (let it : length (answer-line ++ round-line c.args.round) + length (ticks-line c.args.ticks) ≤ length c.args.buf.now = omega (arith, (let it : length ((answer-line ++ round-line c.args.round) ++ ticks-line c.args.ticks) + length ((let it : List ℕ = response_lines (take c.args.graphs c.args.figures) in it)) ≤ length c.args.buf.now = let before : List ℕ = (answer-line ++ round-line c.args.round) ++ ticks-line c.args.ticks in
+    let first = c.put_line-round_at.ensures in
+    let second = both (round-line c.args.round) first ((let it : length answer-line + length (round-line c.args.round) ≤ length c.args.buf.now = omega (arith, (let it : length (answer-line ++ round-line c.args.round) + length (ticks-line c.args.ticks) ≤ length c.args.buf.now = omega (arith, (let it : length ((answer-line ++ round-line c.args.round) ++ ticks-line c.args.ticks) + length ((let it : List ℕ = response_lines (take c.args.graphs c.args.figures) in it)) ≤ length c.args.buf.now = let before : List ℕ = (answer-line ++ round-line c.args.round) ++ ticks-line c.args.ticks in
     let whole = report_is c.args.round c.args.ticks (take c.args.graphs c.args.figures) in
     omega (arith, ap length whole, length-append before ((let it : List ℕ = response_lines (take c.args.graphs c.args.figures) in it)), c.requires.figures_in_bounds) in it), length-append (answer-line ++ round-line c.args.round) (ticks-line c.args.ticks)) in it), length-append answer-line (round-line c.args.round)) in it)) c.put_line.ensures in
     let third = both (ticks-line c.args.ticks) second ((let it : length (answer-line ++ round-line c.args.round) + length (ticks-line c.args.ticks) ≤ length c.args.buf.now = omega (arith, (let it : length ((answer-line ++ round-line c.args.round) ++ ticks-line c.args.ticks) + length ((let it : List ℕ = response_lines (take c.args.graphs c.args.figures) in it)) ≤ length c.args.buf.now = let before : List ℕ = (answer-line ++ round-line c.args.round) ++ ticks-line c.args.ticks in
     let whole = report_is c.args.round c.args.ticks (take c.args.graphs c.args.figures) in
     omega (arith, ap length whole, length-append before ((let it : List ℕ = response_lines (take c.args.graphs c.args.figures) in it)), c.requires.figures_in_bounds) in it), length-append (answer-line ++ round-line c.args.round) (ticks-line c.args.ticks)) in it)) c.put_line-2.ensures in
-    (c.requires.graphs_bound, room ((let it : List ℕ = response_lines (take c.args.graphs c.args.figures) in it)) third ((let it : length ((answer-line ++ round-line c.args.round) ++ ticks-line c.args.ticks) + length ((let it : List ℕ = response_lines (take c.args.graphs c.args.figures) in it)) ≤ length c.args.buf.now = let before : List ℕ = (answer-line ++ round-line c.args.round) ++ ticks-line c.args.ticks in
+    record { graphs_bound = c.requires.graphs_bound; figures_in_bounds = room ((let it : List ℕ = response_lines (take c.args.graphs c.args.figures) in it)) third ((let it : length ((answer-line ++ round-line c.args.round) ++ ticks-line c.args.ticks) + length ((let it : List ℕ = response_lines (take c.args.graphs c.args.figures) in it)) ≤ length c.args.buf.now = let before : List ℕ = (answer-line ++ round-line c.args.round) ++ ticks-line c.args.ticks in
     let whole = report_is c.args.round c.args.ticks (take c.args.graphs c.args.figures) in
-    omega (arith, ap length whole, length-append before ((let it : List ℕ = response_lines (take c.args.graphs c.args.figures) in it)), c.requires.figures_in_bounds) in it)))
+    omega (arith, ap length whole, length-append before ((let it : List ℕ = response_lines (take c.args.graphs c.args.figures) in it)), c.requires.figures_in_bounds) in it)) }
 
 pub overflow_add-result : goal.overflow_add-result
 overflow_add-result c =
-    let second = both (round-line c.args.round) c.put_line-round_at.ensures ((let it : length answer-line + length (round-line c.args.round) ≤ length c.args.buf.now = omega (arith, (let it : length (answer-line ++ round-line c.args.round) + length (ticks-line c.args.ticks) ≤ length c.args.buf.now = omega (arith, (let it : length ((answer-line ++ round-line c.args.round) ++ ticks-line c.args.ticks) + length ((let it : List ℕ = response_lines (take c.args.graphs c.args.figures) in it)) ≤ length c.args.buf.now = let before : List ℕ = (answer-line ++ round-line c.args.round) ++ ticks-line c.args.ticks in
+    let first = c.put_line-round_at.ensures in
+    let second = both (round-line c.args.round) first ((let it : length answer-line + length (round-line c.args.round) ≤ length c.args.buf.now = omega (arith, (let it : length (answer-line ++ round-line c.args.round) + length (ticks-line c.args.ticks) ≤ length c.args.buf.now = omega (arith, (let it : length ((answer-line ++ round-line c.args.round) ++ ticks-line c.args.ticks) + length ((let it : List ℕ = response_lines (take c.args.graphs c.args.figures) in it)) ≤ length c.args.buf.now = let before : List ℕ = (answer-line ++ round-line c.args.round) ++ ticks-line c.args.ticks in
     let whole = report_is c.args.round c.args.ticks (take c.args.graphs c.args.figures) in
     omega (arith, ap length whole, length-append before ((let it : List ℕ = response_lines (take c.args.graphs c.args.figures) in it)), c.requires.figures_in_bounds) in it), length-append (answer-line ++ round-line c.args.round) (ticks-line c.args.ticks)) in it), length-append answer-line (round-line c.args.round)) in it)) c.put_line.ensures in
     let third = both (ticks-line c.args.ticks) second ((let it : length (answer-line ++ round-line c.args.round) + length (ticks-line c.args.ticks) ≤ length c.args.buf.now = omega (arith, (let it : length ((answer-line ++ round-line c.args.round) ++ ticks-line c.args.ticks) + length ((let it : List ℕ = response_lines (take c.args.graphs c.args.figures) in it)) ≤ length c.args.buf.now = let before : List ℕ = (answer-line ++ round-line c.args.round) ++ ticks-line c.args.ticks in
@@ -116,7 +125,8 @@ overflow_add-result c =
 
 pub returns : goal.returns
 returns c =
-    let second = both (round-line c.args.round) c.put_line-round_at.ensures ((let it : length answer-line + length (round-line c.args.round) ≤ length c.args.buf.now = omega (arith, (let it : length (answer-line ++ round-line c.args.round) + length (ticks-line c.args.ticks) ≤ length c.args.buf.now = omega (arith, (let it : length ((answer-line ++ round-line c.args.round) ++ ticks-line c.args.ticks) + length ((let it : List ℕ = response_lines (take c.args.graphs c.args.figures) in it)) ≤ length c.args.buf.now = let before : List ℕ = (answer-line ++ round-line c.args.round) ++ ticks-line c.args.ticks in
+    let first = c.put_line-round_at.ensures in
+    let second = both (round-line c.args.round) first ((let it : length answer-line + length (round-line c.args.round) ≤ length c.args.buf.now = omega (arith, (let it : length (answer-line ++ round-line c.args.round) + length (ticks-line c.args.ticks) ≤ length c.args.buf.now = omega (arith, (let it : length ((answer-line ++ round-line c.args.round) ++ ticks-line c.args.ticks) + length ((let it : List ℕ = response_lines (take c.args.graphs c.args.figures) in it)) ≤ length c.args.buf.now = let before : List ℕ = (answer-line ++ round-line c.args.round) ++ ticks-line c.args.ticks in
     let whole = report_is c.args.round c.args.ticks (take c.args.graphs c.args.figures) in
     omega (arith, ap length whole, length-append before ((let it : List ℕ = response_lines (take c.args.graphs c.args.figures) in it)), c.requires.figures_in_bounds) in it), length-append (answer-line ++ round-line c.args.round) (ticks-line c.args.ticks)) in it), length-append answer-line (round-line c.args.round)) in it)) c.put_line.ensures in
     let third = both (ticks-line c.args.ticks) second ((let it : length (answer-line ++ round-line c.args.round) + length (ticks-line c.args.ticks) ≤ length c.args.buf.now = omega (arith, (let it : length ((answer-line ++ round-line c.args.round) ++ ticks-line c.args.ticks) + length ((let it : List ℕ = response_lines (take c.args.graphs c.args.figures) in it)) ≤ length c.args.buf.now = let before : List ℕ = (answer-line ++ round-line c.args.round) ++ ticks-line c.args.ticks in

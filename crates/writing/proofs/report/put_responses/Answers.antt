@@ -22,8 +22,9 @@ loop-g-init c = (omega arith, refl, nothing c.args.part.now)
 
 pub slice_bounds-put_line-count : goal.slice_bounds-put_line-count
 slice_bounds-put_line-count c =
-    let f = fit c.args.figures c.args.part.now c.args.graphs c.loop-g.g c.well_formed.1.0.1.0.1 c.requires.graphs_bound (omega arith) c.requires.figures_in_bounds in
-    begins (response (get_or c.args.figures c.loop-g.g 0)) c.loop-g.invariant.2 f
+    let l = c.loop-g in
+    let f = fit c.args.figures c.args.part.now c.args.graphs l.g c.well_formed.1.0.1.0.1 c.requires.graphs_bound (omega arith) c.requires.figures_in_bounds in
+    begins (response (get_or c.args.figures l.g 0)) l.invariant.2 f
 
 pub offset_bounds-figures-g : goal.offset_bounds-figures-g
 offset_bounds-figures-g c = omega arith
@@ -33,13 +34,15 @@ bounds-figures-g c = omega arith
 
 pub put_line-at-requires : goal.put_line-at-requires
 put_line-at-requires c =
-    let f = fit c.args.figures c.args.part.now c.args.graphs c.loop-g.g c.well_formed.1.0.1.0.1 c.requires.graphs_bound (omega arith) c.requires.figures_in_bounds in
-    room (response (get_or c.args.figures c.loop-g.g 0)) c.loop-g.invariant.2 f
+    let l = c.loop-g in
+    let f = fit c.args.figures c.args.part.now c.args.graphs l.g c.well_formed.1.0.1.0.1 c.requires.graphs_bound (omega arith) c.requires.figures_in_bounds in
+    room (response (get_or c.args.figures l.g 0)) l.invariant.2 f
 
 pub overflow_add-at : goal.overflow_add-at
 overflow_add-at c =
-    let f = fit c.args.figures c.args.part.now c.args.graphs c.loop-g.g c.well_formed.1.0.1.0.1 c.requires.graphs_bound (omega arith) c.requires.figures_in_bounds in
-    omega (arith, c.loop-g.invariant.2.size, c.put_line-at.ensures.size, f, c.well_formed.0.0)
+    let l = c.loop-g in
+    let f = fit c.args.figures c.args.part.now c.args.graphs l.g c.well_formed.1.0.1.0.1 c.requires.graphs_bound (omega arith) c.requires.figures_in_bounds in
+    omega (arith, l.invariant.2.size, c.put_line-at.ensures.size, f, c.well_formed.0.0)
 
 pub overflow_add-g : goal.overflow_add-g
 overflow_add-g c = omega arith
@@ -49,10 +52,13 @@ loop-g-smaller c = omega arith
 
 pub loop-g-preserved : goal.loop-g-preserved
 loop-g-preserved c =
-    let f = fit c.args.figures c.args.part.now c.args.graphs c.loop-g.g c.well_formed.1.0.1.0.1 c.requires.graphs_bound (omega arith) c.requires.figures_in_bounds in
-    (omega arith, keeps (response (get_or c.args.figures c.loop-g.g 0)) c.loop-g.invariant.2 f c.put_line-at.ensures, named (response_more c.args.figures c.loop-g.g (omega (arith, c.well_formed.1.0.1.0.1))) (both (response (get_or c.args.figures c.loop-g.g 0)) c.loop-g.invariant.2 f c.put_line-at.ensures))
+    let l = c.loop-g in
+    let f = fit c.args.figures c.args.part.now c.args.graphs l.g c.well_formed.1.0.1.0.1 c.requires.graphs_bound (omega arith) c.requires.figures_in_bounds in
+    let q = c.put_line-at.ensures in
+    (omega arith, keeps (response (get_or c.args.figures l.g 0)) l.invariant.2 f q, named (response_more c.args.figures l.g (omega (arith, c.well_formed.1.0.1.0.1))) (both (response (get_or c.args.figures l.g 0)) l.invariant.2 f q))
 
 pub returns : goal.returns
 returns c =
-    let all : c.loop-g.g ≡ c.args.graphs = omega arith in
-    named (ap (λ (k : ℕ). response_lines (take k c.args.figures)) all) c.loop-g.invariant.2
+    let l = c.loop-g in
+    let all : l.g ≡ c.args.graphs = omega arith in
+    named (ap (λ (k : ℕ). response_lines (take k c.args.figures)) all) l.invariant.2

@@ -21,10 +21,11 @@ overflow_add-result c =
 pub returns : goal.returns
 unfolding report_text answer_line
 returns c =
+    let a = c.args in
     let answer = line (bytes "answer") 0 in
-    let round = line (bytes "round") c.args.round in
-    let ticks = line (bytes "ticks") c.args.ticks in
-    let responses = response_lines (take c.args.graphs c.args.figures) in
+    let round = line (bytes "round") a.round in
+    let ticks = line (bytes "ticks") a.ticks in
+    let responses = response_lines (take a.graphs a.figures) in
     record {
       size = omega (
         arith,

@@ -34,16 +34,20 @@ loop-g-smaller c = omega arith
 
 pub loop-g-preserved : goal.loop-g-preserved
 loop-g-preserved c =
-    let inside : c.loop-g.g < length c.args.figures = omega arith in (
+    let l = c.loop-g in
+    let fs = c.args.figures in
+    let many = c.well_formed.0.1.0.1 in
+    let inside : l.g < length fs = omega arith in (
       omega arith,
-      omega (arith, c.loop-g.invariant.1, c.line_length-n.ensures.size, length-append (response_lines (take c.loop-g.g c.args.figures)) (response (get_or c.args.figures c.loop-g.g 0)), ap length (response_more c.args.figures c.loop-g.g inside)),
+      omega (arith, l.invariant.1, c.line_length-n.ensures.size, length-append (response_lines (take l.g fs)) (response (get_or fs l.g 0)), ap length (response_more fs l.g inside)),
       omega (arith, c.line_length-n.ensures.within),
     )
 
 pub returns : goal.returns
 returns c =
-    let all : c.loop-g.g ≡ c.args.graphs = omega arith in
+    let l = c.loop-g in
+    let all : l.g ≡ c.args.graphs = omega arith in
     record {
-      size = c.loop-g.invariant.1 ∙ ap (λ (k : ℕ). length (response_lines (take k c.args.figures))) all;
+      size = l.invariant.1 ∙ ap (λ (k : ℕ). length (response_lines (take k c.args.figures))) all;
       within = omega arith;
     }

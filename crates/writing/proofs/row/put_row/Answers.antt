@@ -30,21 +30,24 @@ bounds-row-i c = omega arith
 
 pub slice_bounds-put_run-count : goal.slice_bounds-put_run-count
 slice_bounds-put_run-count c =
-    let many : length c.args.row.run ≡ (Limits.processors).to = sym (length-map c.args.row.run _) ∙ c.well_formed.1.0.1.1.0.1.0.1 in
-    let f = fit c.args.row c.args.buf.now c.loop-i.i many c.requires.count_bound (omega arith) c.requires.row_in_bounds in
-    begins (run (get_or c.args.row.run c.loop-i.i no_run)) c.loop-i.invariant.2 f
+    let l = c.loop-i in
+    let many : length c.args.row.run ≡ (Limits.processors).to = c.well_formed.1.0.1.1.0.1.0.1 in
+    let f = fit c.args.row c.args.buf.now l.i many c.requires.count_bound (omega arith) c.requires.row_in_bounds in
+    begins (run (get_or c.args.row.run l.i no_run)) l.invariant.2 f
 
 pub put_run-at-requires : goal.put_run-at-requires
 put_run-at-requires c =
-    let many : length c.args.row.run ≡ (Limits.processors).to = sym (length-map c.args.row.run _) ∙ c.well_formed.1.0.1.1.0.1.0.1 in
-    let f = fit c.args.row c.args.buf.now c.loop-i.i many c.requires.count_bound (omega arith) c.requires.row_in_bounds in
-    room (run (get_or c.args.row.run c.loop-i.i no_run)) c.loop-i.invariant.2 f
+    let l = c.loop-i in
+    let many : length c.args.row.run ≡ (Limits.processors).to = c.well_formed.1.0.1.1.0.1.0.1 in
+    let f = fit c.args.row c.args.buf.now l.i many c.requires.count_bound (omega arith) c.requires.row_in_bounds in
+    room (run (get_or c.args.row.run l.i no_run)) l.invariant.2 f
 
 pub overflow_add-at : goal.overflow_add-at
 overflow_add-at c =
-    let many : length c.args.row.run ≡ (Limits.processors).to = sym (length-map c.args.row.run _) ∙ c.well_formed.1.0.1.1.0.1.0.1 in
-    let f = fit c.args.row c.args.buf.now c.loop-i.i many c.requires.count_bound (omega arith) c.requires.row_in_bounds in
-    omega (arith, c.loop-i.invariant.2.size, c.put_run-at.ensures.size, f, c.well_formed.0.0)
+    let l = c.loop-i in
+    let many : length c.args.row.run ≡ (Limits.processors).to = c.well_formed.1.0.1.1.0.1.0.1 in
+    let f = fit c.args.row c.args.buf.now l.i many c.requires.count_bound (omega arith) c.requires.row_in_bounds in
+    omega (arith, l.invariant.2.size, c.put_run-at.ensures.size, f, c.well_formed.0.0)
 
 pub overflow_add-i : goal.overflow_add-i
 overflow_add-i c = omega arith
@@ -54,11 +57,14 @@ loop-i-smaller c = omega arith
 
 pub loop-i-preserved : goal.loop-i-preserved
 loop-i-preserved c =
-    let many : length c.args.row.run ≡ (Limits.processors).to = sym (length-map c.args.row.run _) ∙ c.well_formed.1.0.1.1.0.1.0.1 in
-    let f = fit c.args.row c.args.buf.now c.loop-i.i many c.requires.count_bound (omega arith) c.requires.row_in_bounds in
-    (omega arith, keeps (run (get_or c.args.row.run c.loop-i.i no_run)) c.loop-i.invariant.2 f c.put_run-at.ensures, named (run_more c.args.row.run c.loop-i.i (omega arith)) (both (run (get_or c.args.row.run c.loop-i.i no_run)) c.loop-i.invariant.2 f c.put_run-at.ensures))
+    let l = c.loop-i in
+    let many : length c.args.row.run ≡ (Limits.processors).to = c.well_formed.1.0.1.1.0.1.0.1 in
+    let f = fit c.args.row c.args.buf.now l.i many c.requires.count_bound (omega arith) c.requires.row_in_bounds in
+    let q = c.put_run-at.ensures in
+    (omega arith, keeps (run (get_or c.args.row.run l.i no_run)) l.invariant.2 f q, named (run_more c.args.row.run l.i (omega arith)) (both (run (get_or c.args.row.run l.i no_run)) l.invariant.2 f q))
 
 pub returns : goal.returns
 returns c =
-    let all : c.loop-i.i ≡ c.args.row.count = omega arith in
-    named (ap (λ (k : ℕ). row_text (map running_of (take k c.args.row.run))) all) c.loop-i.invariant.2
+    let l = c.loop-i in
+    let all : l.i ≡ c.args.row.count = omega arith in
+    named (ap (λ (k : ℕ). row_text (map running_of (take k c.args.row.run))) all) l.invariant.2

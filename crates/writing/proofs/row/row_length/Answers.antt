@@ -35,14 +35,17 @@ loop-i-smaller c = omega arith
 
 pub loop-i-preserved : goal.loop-i-preserved
 loop-i-preserved c =
-    let many : length c.args.row.run ≡ (Limits.processors).to = sym (length-map c.args.row.run _) ∙ c.well_formed.0.1.1.0.1.0.1 in
-    let inside : c.loop-i.i < length c.args.row.run = omega arith in (
+    let l = c.loop-i in
+    let xs = c.args.row.run in
+    let many : length c.args.row.run ≡ (Limits.processors).to = c.well_formed.0.1.1.0.1.0.1 in
+    let inside : l.i < length xs = omega arith in (
       omega arith,
-      omega (arith, c.loop-i.invariant.1, c.run_length-n.ensures.size, length-append (row_text (map running_of (take c.loop-i.i c.args.row.run))) (run (get_or c.args.row.run c.loop-i.i no_run)), ap length (run_more c.args.row.run c.loop-i.i inside)),
+      omega (arith, l.invariant.1, c.run_length-n.ensures.size, length-append (row_text (map running_of (take l.i xs))) (run (get_or xs l.i no_run)), ap length (run_more xs l.i inside)),
       omega (arith, c.run_length-n.ensures.within),
     )
 
 pub returns : goal.returns
 returns c =
-    let all : c.loop-i.i ≡ c.args.row.count = omega arith in
-    record { size = c.loop-i.invariant.1 ∙ ap (λ (k : ℕ). length (row_text (map running_of (take k c.args.row.run)))) all; within = omega arith }
+    let l = c.loop-i in
+    let all : l.i ≡ c.args.row.count = omega arith in
+    record { size = l.invariant.1 ∙ ap (λ (k : ℕ). length (row_text (map running_of (take k c.args.row.run)))) all; within = omega arith }

@@ -1,0 +1,7 @@
+-- `refused` meets its contract.
+use Prim.Native.Nat.{◌-◌}
+use borrow.Author.Rules.{rules}
+use Rattle.admission.proofs.admitting.refused.Goals as goal
+
+pub returns : goal.returns
+returns c = rw c.empty.ensures

@@ -1,0 +1,21 @@
+use mathlib.Core.List.{List}
+use mathlib.Core.Path.{◌≡◌, sym, ◌∙◌, ap}
+use Prim.Native.Nat.{ℕ, ◌+◌, ◌-◌, ◌*◌}
+use native.Mathlib.Omega.{arith}
+use lib.ListN.{get_or}
+use borrow.Author.Rules.{rules}
+use Rattle.schedule.specs.Lists.{sum, tab}
+use Rattle.schedule.specs.Table as Rules
+use Rattle.table.specs.Fresh.{no_node}
+use Rattle.table.specs.declared.Node.{Node}
+use Rattle.admission.specs.Loads.{room_after, graph_load}
+use Rattle.reading.specs.Memory.{node_of, graph_of}
+use Rattle.admission.proofs.LoadLaws.{over_more, left_more, room_whole, tab_next, tab_done}
+use Rattle.admission.proofs.loads.graph_room.Given as goal
+
+abbrev pub invariant-loop-k : goal.invariant-loop-k
+invariant-loop-k l = room_after l.room (graph_load l.times (graph_of l.t.node l.x))
+    ≡ room_after l.left (sum (λ (y : Rules.Node). y.budget * l.times) (tab (λ (i : ℕ). node_of (get_or l.t.node i no_node)) (l.x.first + l.k) (l.x.nodes - l.k)))
+
+abbrev pub decreases-loop-k : goal.decreases-loop-k
+decreases-loop-k l = l.x.nodes - l.k

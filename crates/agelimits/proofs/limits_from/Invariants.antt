@@ -1,0 +1,22 @@
+use mathlib.Core.Path.{◌≡◌, refl, sym, ◌∙◌, ap}
+use mathlib.Core.List.{List}
+use Prim.Native.Nat.{ℕ, ◌+◌, ◌-◌, ◌≤◌}
+use native.Mathlib.Omega.{arith}
+use lib.ListN.{length, take, set, length-set}
+use borrow.Author.Rules.{rules}
+use Rattle.schedule.specs.Limits as Limits
+use Rattle.format.specs.Keys as Keys
+use Rattle.format.specs.Reading.{done}
+use Rattle.rules.proofs.Outcomes.{told, number_line_holds}
+use Rattle.margins.specs.Margins.{limits_from}
+use Rattle.lines.specs.Numbered.{map_outcome, place_of, line_read_of}
+use Rattle.agelimits.specs.Read.{start, behind}
+use Rattle.agelimits.proofs.Runs.{limits_all, limits_one, limits_stop, limits_none}
+use Rattle.agelimits.proofs.limits_from.Given as goal
+
+abbrev pub invariant-loop-g : goal.invariant-loop-g
+invariant-loop-g l = (l.g ≤ l.n) × (l.p.line ≡ l.g + 1) × (length l.limits ≡ (Limits.graphs).to)
+    × (limits_from l.n (start l.s) ≡ map_outcome (behind (take l.g l.limits)) (limits_from (l.n - l.g) (place_of l.s l.p)))
+
+abbrev pub decreases-loop-g : goal.decreases-loop-g
+decreases-loop-g l = l.n - l.g
