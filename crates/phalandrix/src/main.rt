@@ -35,7 +35,7 @@ enum Line {
     Failed,
 }
 
-// The room for an argument or a text of the program's own: a path's length, which no report and no row passes.
+// The room for an argument, and for a text to print, but for those of salvage and of margins: a path's length, which none of them passes.
 const ROOM: usize = 4096;
 
 // The room for an error's text as the system words it.
