@@ -1,0 +1,16 @@
+use mathlib.Core.Path.{◌≡◌, refl, sym, ap, ◌∙◌}
+use Prim.Native.Nat.{◌-◌, ◌≤◌}
+use native.Mathlib.Omega.{arith}
+use lib.ListN.{get_or}
+use Rattle.ledger.specs.Entries.{instant_after}
+use Rattle.ledger.specs.Ranks.{rank_by}
+use Rattle.plainranks.proofs.RankLaws.{rank_start, rank_more, rank_end}
+use borrow.Author.Rules.{rules}
+use Rattle.plainranks.proofs.ranks.rank.Given as goal
+
+abbrev pub invariant-loop-m : goal.invariant-loop-m
+invariant-loop-m l =
+    (l.m ≤ l.n) × (l.count ≡ rank_by l.offsets l.period l.level l.complete l.released l.i l.deadline l.m)
+
+abbrev pub decreases-loop-m : goal.decreases-loop-m
+decreases-loop-m l = l.n - l.m
