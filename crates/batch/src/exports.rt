@@ -1,4 +1,4 @@
-// The call for C. A slice passes as a pointer and a length, and the answers by value.
+// The call as C takes it; phalandrix_c exports it. A slice passes as a pointer and a length, and the answers by value.
 ghost use Rattle.std.specs.Prelude.{◌≡◌};
 ghost use Rattle.rules.specs.Batch.{batch_of};
 ghost use Rattle.batch.specs.Told.{Told, TrueReports, refused_batch};
@@ -35,12 +35,7 @@ pub fn refused(r: Refusal) -> PhalandrixBatch
 
 // Refusal 11 is known before the first table is looked at. Else what it returns and leaves in each share is what the single call does for
 // that table and that share; and where a table's answer is 0, its figures are the least true ones.
-#[unsafe(no_mangle)]
-pub extern "C" fn phalandrix_batch(
-    tables: &[u8],
-    lengths: &[usize],
-    buffer: &mut [u8],
-) -> PhalandrixBatch
+pub fn phalandrix_batch(tables: &[u8], lengths: &[usize], buffer: &mut [u8]) -> PhalandrixBatch
     ensures call { Told result buffer.new (batch_of tables.now lengths.now buffer.old) }
     ensures least_true { TrueReports result tables.now lengths.now }
 {

@@ -1,4 +1,4 @@
-// The calls for C. A slice passes as a pointer and a length; tables in memory and answers pass by value.
+// The calls as C takes them; phalandrix_c exports them. A slice passes as a pointer and a length; tables in memory and answers pass by value.
 ghost use Rattle.std.specs.Prelude.{◌≡◌};
 ghost use Rattle.format.specs.Reading.{read_of};
 ghost use Rattle.rules.specs.Answers.{call_of};
@@ -22,8 +22,7 @@ pub struct PhalandrixReading {
     pub table: PhalandrixTable,
 }
 
-#[unsafe(no_mangle)]
-pub extern "C" fn phalandrix_read(table: &[u8]) -> PhalandrixReading
+pub fn phalandrix_read(table: &[u8]) -> PhalandrixReading
     ensures { result ≡ reading_of (read_table (read_of table.now)) }
 {
     let got = read(table);
@@ -45,8 +44,7 @@ pub extern "C" fn phalandrix_read(table: &[u8]) -> PhalandrixReading
     }
 }
 
-#[unsafe(no_mangle)]
-pub extern "C" fn phalandrix_write(table: PhalandrixTable, buffer: &mut [u8]) -> PhalandrixAnswer
+pub fn phalandrix_write(table: PhalandrixTable, buffer: &mut [u8]) -> PhalandrixAnswer
     ensures { Told result buffer.new (call_of buffer.old (write_of (table_in table))) }
 {
     told(write(table, buffer))

@@ -1,4 +1,4 @@
-// The call for C. A slice passes as a pointer and a length, and the answer by value.
+// The call as C takes it; phalandrix_c exports it. A slice passes as a pointer and a length, and the answer by value.
 ghost use Rattle.std.specs.Prelude.{◌≡◌};
 ghost use Rattle.margins.specs.Margins.{margin_of};
 ghost use Rattle.margins.specs.Kept.{TrueMargins};
@@ -35,12 +35,7 @@ pub fn told(a: MarginAnswer) -> PhalandrixMargin
     }
 }
 
-#[unsafe(no_mangle)]
-pub extern "C" fn phalandrix_margin(
-    table: &[u8],
-    limits: &[u8],
-    buffer: &mut [u8],
-) -> PhalandrixMargin
+pub fn phalandrix_margin(table: &[u8], limits: &[u8], buffer: &mut [u8]) -> PhalandrixMargin
     ensures call { Told result buffer.old buffer.new (margin_of table.now limits.now) }
     ensures kept { result.number ≡ 0 → TrueMargins table.now limits.now }
 {

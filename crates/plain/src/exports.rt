@@ -1,4 +1,4 @@
-// The two calls for C. A slice passes as a pointer and a length, and the answer by value.
+// The two calls as C takes them; phalandrix_c exports them. A slice passes as a pointer and a length, and the answer by value.
 ghost use Rattle.std.specs.Prelude.{◌≡◌};
 ghost use Rattle.rules.specs.Answers.{report_of, row_of, row_ticks_of, call_of};
 ghost use Rattle.rules.specs.Demands.{TrueReport};
@@ -8,20 +8,14 @@ use crate::reporting::plain_report;
 use crate::rowing::plain_row;
 use sheet::{PhalandrixAnswer, PhalandrixRowAnswer};
 
-#[unsafe(no_mangle)]
-pub extern "C" fn phalandrix_plain_report(table: &[u8], buffer: &mut [u8]) -> PhalandrixAnswer
+pub fn phalandrix_plain_report(table: &[u8], buffer: &mut [u8]) -> PhalandrixAnswer
     ensures call { Told result buffer.new (call_of buffer.old (report_of table.now)) }
     ensures least_true { result.number ≡ 0 → TrueReport table.now }
 {
     sheet::told(plain_report(table, buffer))
 }
 
-#[unsafe(no_mangle)]
-pub extern "C" fn phalandrix_plain_row(
-    table: &[u8],
-    instant: u64,
-    buffer: &mut [u8],
-) -> PhalandrixRowAnswer
+pub fn phalandrix_plain_row(table: &[u8], instant: u64, buffer: &mut [u8]) -> PhalandrixRowAnswer
     ensures { ToldRow result buffer.new (call_of buffer.old (row_of table.now instant)) (row_ticks_of table.now instant) }
 {
     sheet::told_row(plain_row(table, instant, buffer))

@@ -1,4 +1,4 @@
-// The call for C. A slice passes as a pointer and a length, and the answer by value.
+// The call as C takes it; phalandrix_c exports it. A slice passes as a pointer and a length, and the answer by value.
 ghost use Rattle.std.specs.Prelude.{◌≡◌};
 ghost use Rattle.salvaging.specs.Salvage.{salvage_call};
 ghost use Rattle.salvage.specs.Told.{told_of, Told};
@@ -38,12 +38,7 @@ pub fn told(a: SalvageAnswer) -> PhalandrixSalvage
     }
 }
 
-#[unsafe(no_mangle)]
-pub extern "C" fn phalandrix_salvage(
-    bytes: &[u8],
-    text: &mut [u8],
-    list: &mut [u8],
-) -> PhalandrixSalvage
+pub fn phalandrix_salvage(bytes: &[u8], text: &mut [u8], list: &mut [u8]) -> PhalandrixSalvage
     ensures { Told result text.new list.new (salvage_call bytes.now text.old list.old) }
 {
     told(salvage(bytes, text, list))

@@ -1,4 +1,4 @@
-// The two calls for C. A slice passes as a pointer and a length, and the answer by value.
+// The two calls as C takes them; phalandrix_c exports them. A slice passes as a pointer and a length, and the answer by value.
 ghost use Rattle.std.specs.Prelude.{◌≡◌};
 ghost use Rattle.rules.specs.Answers.{report_of, row_of, row_ticks_of, call_of};
 ghost use Rattle.rules.specs.Demands.{TrueReport};
@@ -48,8 +48,7 @@ pub fn told(a: Answer) -> PhalandrixAnswer
     }
 }
 
-#[unsafe(no_mangle)]
-pub extern "C" fn phalandrix_report(table: &[u8], buffer: &mut [u8]) -> PhalandrixAnswer
+pub fn phalandrix_report(table: &[u8], buffer: &mut [u8]) -> PhalandrixAnswer
     ensures call { Told result buffer.new (call_of buffer.old (report_of table.now)) }
     ensures least_true { result.number ≡ 0 → TrueReport table.now }
 {
@@ -70,12 +69,7 @@ pub fn told_row(a: RowAnswer) -> PhalandrixRowAnswer
     }
 }
 
-#[unsafe(no_mangle)]
-pub extern "C" fn phalandrix_row(
-    table: &[u8],
-    instant: u64,
-    buffer: &mut [u8],
-) -> PhalandrixRowAnswer
+pub fn phalandrix_row(table: &[u8], instant: u64, buffer: &mut [u8]) -> PhalandrixRowAnswer
     ensures { ToldRow result buffer.new (call_of buffer.old (row_of table.now instant)) (row_ticks_of table.now instant) }
 {
     told_row(row(table, instant, buffer))

@@ -10,7 +10,6 @@ use Rattle.admission.proofs.loads.graph_of.Goals as goal
 
 pub returns : goal.returns
 returns c =
-    let a = c.args in
-    let many : length a.t1.graph ≡ (Limits.graphs).to = c.well_formed.0.1.1.1.1.1.1.0.1.0.1 in
-    let past : length a.t1.graph ≤ a.g = omega arith in
-    sym (get_or-eq_default a.t1.graph no_graph past)
+    let many : length c.args.t.graph ≡ (Limits.graphs).to = c.well_formed.0.1.1.1.1.1.1.0.1.0.1 in
+    let past : length c.args.t.graph ≤ c.args.g = omega arith in
+    sym (get_or-eq_default c.args.t.graph no_graph past)

@@ -24,26 +24,24 @@ loop-k-init c =
 pub returns-in-Over : goal.returns-in-Over
 returns-in-Over c =
     let st = c.loop-k in
-    let a = c.args in
-    let x = a.x in
-    let need : Rules.Node → ℕ = λ (y : Rules.Node). y.budget * a.times in
-    let at : ℕ → Rules.Node = λ (i : ℕ). node_of (get_or a.t.node i no_node) in
+    let x = c.args.x in
+    let need : Rules.Node → ℕ = λ (y : Rules.Node). y.budget * c.args.times in
+    let at : ℕ → Rules.Node = λ (i : ℕ). node_of (get_or c.args.t.node i no_node) in
     let others = tab at (x.first + st.k + 1) (x.nodes - (st.k + 1)) in
     let e = sym c.in-Over.is ∙ c.room_after.ensures
-    ∙ ap (λ (y : Node). room_after st.left (y.budget * a.times)) c.node_of-y.ensures in
+    ∙ ap (λ (y : Node). room_after st.left (y.budget * c.args.times)) c.node_of-y.ensures in
     sym (st.invariant ∙ ap (λ (l : List Rules.Node). room_after st.left (sum need l)) (tab_next at (x.first + st.k) x.nodes st.k c.loop-k-test.true)
     ∙ over_more st.left (need (at (x.first + st.k))) (sum need others) e)
 
 pub loop-k-preserved : goal.loop-k-preserved
 loop-k-preserved c =
     let st = c.loop-k in
-    let a = c.args in
-    let x = a.x in
-    let need : Rules.Node → ℕ = λ (y : Rules.Node). y.budget * a.times in
-    let at : ℕ → Rules.Node = λ (i : ℕ). node_of (get_or a.t.node i no_node) in
+    let x = c.args.x in
+    let need : Rules.Node → ℕ = λ (y : Rules.Node). y.budget * c.args.times in
+    let at : ℕ → Rules.Node = λ (i : ℕ). node_of (get_or c.args.t.node i no_node) in
     let others = tab at (x.first + st.k + 1) (x.nodes - (st.k + 1)) in
     let e = sym c.in-Left.is ∙ c.room_after.ensures
-    ∙ ap (λ (y : Node). room_after st.left (y.budget * a.times)) c.node_of-y.ensures in
+    ∙ ap (λ (y : Node). room_after st.left (y.budget * c.args.times)) c.node_of-y.ensures in
     let m = c.in-Left.m in
     let i : x.first + st.k + 1 ≡ x.first + (st.k + 1) = omega arith in
     st.invariant ∙ ap (λ (l : List Rules.Node). room_after st.left (sum need l)) (tab_next at (x.first + st.k) x.nodes st.k c.loop-k-test.true)
@@ -53,8 +51,7 @@ loop-k-preserved c =
 pub returns : goal.returns
 returns c =
     let st = c.loop-k in
-    let a = c.args in
-    let x = a.x in
-    sym (st.invariant ∙ ap (λ (l : List Rules.Node). room_after st.left (sum (λ (y : Rules.Node). y.budget * a.times) l))
-    (tab_done (λ (i : ℕ). node_of (get_or a.t.node i no_node)) (x.first + st.k) x.nodes st.k c.loop-k-test.false)
+    let x = c.args.x in
+    sym (st.invariant ∙ ap (λ (l : List Rules.Node). room_after st.left (sum (λ (y : Rules.Node). y.budget * c.args.times) l))
+    (tab_done (λ (i : ℕ). node_of (get_or c.args.t.node i no_node)) (x.first + st.k) x.nodes st.k c.loop-k-test.false)
     ∙ room_whole st.left)

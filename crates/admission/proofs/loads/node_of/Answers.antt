@@ -10,14 +10,12 @@ use Rattle.admission.proofs.loads.node_of.Goals as goal
 
 pub returns-else-k-first : goal.returns-else-k-first
 returns-else-k-first c =
-    let a = c.args in
-    let many : length a.t1.node ≡ (Limits.all_nodes).to = c.well_formed.0.1.1.1.1.1.1.1.0.1.0.1 in
-    let past : length a.t1.node ≤ a.first + a.k = omega arith in
-    sym (get_or-eq_default a.t1.node no_node past)
+    let many : length c.args.t.node ≡ (Limits.all_nodes).to = c.well_formed.0.1.1.1.1.1.1.1.0.1.0.1 in
+    let past : length c.args.t.node ≤ c.args.first + c.args.k = omega arith in
+    sym (get_or-eq_default c.args.t.node no_node past)
 
 pub returns-else-first-lt-SERVERS : goal.returns-else-first-lt-SERVERS
 returns-else-first-lt-SERVERS c =
-    let a = c.args in
-    let many : length a.t1.node ≡ (Limits.all_nodes).to = c.well_formed.0.1.1.1.1.1.1.1.0.1.0.1 in
-    let past : length a.t1.node ≤ a.first + a.k = omega arith in
-    sym (get_or-eq_default a.t1.node no_node past)
+    let many : length c.args.t.node ≡ (Limits.all_nodes).to = c.well_formed.0.1.1.1.1.1.1.1.0.1.0.1 in
+    let past : length c.args.t.node ≤ c.args.first + c.args.k = omega arith in
+    sym (get_or-eq_default c.args.t.node no_node past)

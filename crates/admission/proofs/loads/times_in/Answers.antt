@@ -5,4 +5,4 @@ use borrow.Author.Rules.{rules}
 use Rattle.admission.proofs.loads.times_in.Goals as goal
 
 pub returns-then-period-eq0 : goal.returns-then-period-eq0
-returns-then-period-eq0 c = let a = c.args in rw (c.if-period-eq0.true, div-zero a.h)
+returns-then-period-eq0 c =  rw (c.if-period-eq0.true, div-zero c.args.h)

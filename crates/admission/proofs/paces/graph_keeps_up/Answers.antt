@@ -15,14 +15,6 @@ use Rattle.reading.specs.Memory.{node_of, graph_of}
 use Rattle.admission.proofs.PaceLaws.{passes_next, fails_here, passes_all}
 use Rattle.admission.proofs.paces.graph_keeps_up.Goals as goal
 
-judged : (c : tie.After-within-level invariant-loop decreases-loop)
-    → Rules.node_keeps_up c.before.before.before.before.before.args.x.period
-    (atNode c.before.before.before.before.before (c.before.before.before.before.before.args.x.first + c.before.before.before.before.loop.k))
-    ≡ c.within_level.result
-judged c =
-    let x = c.before.before.before.before.before.args.x in
-    sym (c.within_level.ensures ∙ ap (λ (y : Node). leb y.budget (y.level * x.period)) c.before.node_of.ensures)
-
 pub loop-k-init : goal.loop-k-init
 loop-k-init c =
     let x = c.args.x in
@@ -35,7 +27,8 @@ returns-then-not-within_level c =
     let st = c.loop-k in
     let x = c.args.x in
     sym (st.invariant ∙ fails_here (Rules.node_keeps_up x.period) ((let it : ℕ → Rules.Node = λ i. node_of (get_or c.args.t.node i no_node) in it)) (x.first + st.k) x.nodes st.k c.loop-k-test.true
-    (judged (goal.at.returns-then-not-within_level c).After-within_level ∙ not-true _ c.if-not-within_level.true))
+    ((let it : Rules.node_keeps_up c.args.x.period ((let it : ℕ → Rules.Node = λ i. node_of (get_or c.args.t.node i no_node) in it) (c.args.x.first + c.loop-k.k)) ≡ c.within_level.result = let x = c.args.x in
+    sym (c.within_level.ensures ∙ ap (λ (y : Node). leb y.budget (y.level * x.period)) c.node_of-y.ensures) in it) ∙ c.if-not-within_level.true))
 
 pub loop-k-preserved : goal.loop-k-preserved
 loop-k-preserved c =
@@ -44,7 +37,8 @@ loop-k-preserved c =
     let keeps = Rules.node_keeps_up x.period in
     let i : x.first + st.k + 1 ≡ x.first + (st.k + 1) = omega arith in
     st.invariant ∙ passes_next keeps ((let it : ℕ → Rules.Node = λ i. node_of (get_or c.args.t.node i no_node) in it)) (x.first + st.k) x.nodes st.k c.loop-k-test.true
-    (judged (goal.at.loop-k-preserved c).After-within_level ∙ not-false _ c.if-not-within_level.false)
+    ((let it : Rules.node_keeps_up c.args.x.period ((let it : ℕ → Rules.Node = λ i. node_of (get_or c.args.t.node i no_node) in it) (c.args.x.first + c.loop-k.k)) ≡ c.within_level.result = let x = c.args.x in
+    sym (c.within_level.ensures ∙ ap (λ (y : Node). leb y.budget (y.level * x.period)) c.node_of-y.ensures) in it) ∙ c.if-not-within_level.false)
     ∙ ap (λ (j : ℕ). all? keeps (tab ((let it : ℕ → Rules.Node = λ i. node_of (get_or c.args.t.node i no_node) in it)) j (x.nodes - (st.k + 1)))) i
 
 pub returns : goal.returns

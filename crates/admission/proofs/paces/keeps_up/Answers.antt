@@ -12,17 +12,8 @@ use Rattle.table.specs.Fresh.{no_graph}
 use Rattle.table.specs.declared.Graph.{Graph}
 use Rattle.reading.specs.Memory.{graph_of, table_of}
 use Rattle.admission.proofs.PaceLaws.{passes_next, fails_here, passes_all}
+use Rattle.admission.proofs.paces.keeps_up.Invariants.{keeps}
 use Rattle.admission.proofs.paces.keeps_up.Goals as goal
-
--- of a graph
-abbrev keeps : Rules.Graph → Bool
-keeps G = all? (Rules.node_keeps_up G.period) G.nodes
-
-judged : (c : tie.After-graph-keeps-up invariant-loop decreases-loop)
-    → keeps (atGraph c.before.before.before.before.before c.before.before.before.before.loop.g) ≡ c.graph-keeps-up.result
-judged c =
-    let t = c.before.before.before.before.before.args.t in
-    sym (c.graph-keeps-up.ensures ∙ ap (λ (x : Graph). keeps (graph_of t.node x)) c.before.graph-of.ensures)
 
 pub loop-g-init : goal.loop-g-init
 unfolding Rules.keeps_up
@@ -36,14 +27,16 @@ returns-then-not-graph_keeps_up c =
     let st = c.loop-g in
     let t = c.args.t in
     sym (st.invariant ∙ fails_here keeps ((let it : ℕ → Rules.Graph = λ i. graph_of c.args.t.node (get_or c.args.t.graph i no_graph) in it)) st.g t.graphs st.g c.loop-g-test.true
-    (judged (goal.at.returns-then-not-graph_keeps_up c).After-graph_keeps_up ∙ not-true _ c.if-not-graph_keeps_up.true))
+    ((let it : keeps ((let it : ℕ → Rules.Graph = λ i. graph_of c.args.t.node (get_or c.args.t.graph i no_graph) in it) c.loop-g.g) ≡ c.graph_keeps_up.result = let t = c.args.t in
+    sym (c.graph_keeps_up.ensures ∙ ap (λ (x : Graph). keeps (graph_of t.node x)) c.graph_of.ensures) in it) ∙ c.if-not-graph_keeps_up.true))
 
 pub loop-g-preserved : goal.loop-g-preserved
 loop-g-preserved c =
     let st = c.loop-g in
     let t = c.args.t in
     st.invariant ∙ passes_next keeps ((let it : ℕ → Rules.Graph = λ i. graph_of c.args.t.node (get_or c.args.t.graph i no_graph) in it)) st.g t.graphs st.g c.loop-g-test.true
-    (judged (goal.at.loop-g-preserved c).After-graph_keeps_up ∙ not-false _ c.if-not-graph_keeps_up.false)
+    ((let it : keeps ((let it : ℕ → Rules.Graph = λ i. graph_of c.args.t.node (get_or c.args.t.graph i no_graph) in it) c.loop-g.g) ≡ c.graph_keeps_up.result = let t = c.args.t in
+    sym (c.graph_keeps_up.ensures ∙ ap (λ (x : Graph). keeps (graph_of t.node x)) c.graph_of.ensures) in it) ∙ c.if-not-graph_keeps_up.false)
 
 pub returns : goal.returns
 returns c =

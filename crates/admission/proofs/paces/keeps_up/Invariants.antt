@@ -13,6 +13,10 @@ use Rattle.reading.specs.Memory.{graph_of, table_of}
 use Rattle.admission.proofs.PaceLaws.{passes_next, fails_here, passes_all}
 use Rattle.admission.proofs.paces.keeps_up.Given as goal
 
+-- of a graph
+abbrev pub keeps : Rules.Graph → Bool
+keeps G = all? (Rules.node_keeps_up G.period) G.nodes
+
 abbrev pub invariant-loop-g : goal.invariant-loop-g
 invariant-loop-g l = Rules.keeps_up (table_of l.t) ≡ all? keeps (tab (λ (i : ℕ). graph_of l.t.node (get_or l.t.graph i no_graph)) l.g (l.t.graphs - l.g))
 

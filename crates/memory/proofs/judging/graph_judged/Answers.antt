@@ -15,20 +15,17 @@ overflow_add-line c = omega arith
 
 pub graph_nodes_judged-requires : goal.graph_nodes_judged-requires
 graph_nodes_judged-requires c =
-    let a = c.args in
-    let h = head_few a.g a.nodes a.total a.line (a.line + 3) (sym (ap (judged_as (a.line + 3)) c.in-Passes.is) ∙ c.three_judged.ensures) in
+    let h = head_few c.args.g c.args.nodes c.args.total c.args.line (c.args.line + 3) (sym (ap (judged_as (c.args.line + 3)) c.in-Passes.is) ∙ c.three_judged.ensures) in
     (omega arith, h.0, h.1, omega (arith, h.1))
 
 pub returns-in-Refused : goal.returns-in-Refused
 returns-in-Refused c =
-    let a = c.args in
-    graph_stop a.g a.nodes a.total a.line _ (sym (ap (judged_as (a.line + 3)) c.in-Refused.is) ∙ c.three_judged.ensures)
+    graph_stop c.args.g c.args.nodes c.args.total c.args.line _ (sym (ap (judged_as (c.args.line + 3)) c.in-Refused.is) ∙ c.three_judged.ensures)
 
 pub returns-in-Passes : goal.returns-in-Passes
 returns-in-Passes c =
-    let a = c.args in
-    let e : a.line + 3 + 3 * a.g.nodes ≡ a.line + 2 + 1 + 3 * a.g.nodes = omega arith in
+    let e : c.args.line + 3 + 3 * c.args.g.nodes ≡ c.args.line + 2 + 1 + 3 * c.args.g.nodes = omega arith in
     ap (λ (k : ℕ). judged_as k c.graph_nodes_judged.result) e
     ∙ c.graph_nodes_judged.ensures
-    ∙ graph_pass a.g a.nodes a.total a.line (a.line + 3)
-    (sym (ap (judged_as (a.line + 3)) c.in-Passes.is) ∙ c.three_judged.ensures)
+    ∙ graph_pass c.args.g c.args.nodes c.args.total c.args.line (c.args.line + 3)
+    (sym (ap (judged_as (c.args.line + 3)) c.in-Passes.is) ∙ c.three_judged.ensures)

@@ -12,8 +12,7 @@ overflow_add-total c = omega arith
 
 pub returns-then-total-n-gt-SERVERS : goal.returns-then-total-n-gt-SERVERS
 returns-then-total-n-gt-SERVERS c =
-    let a = c.args in
-    ap (judged_as (a.line + 1 + 3 * a.n)) c.outside.ensures ∙ sym (graph_nodes_over a.nodes a.total a.n a.line (a.line + 1) (omega arith))
+    ap (judged_as (c.args.line + 1 + 3 * c.args.n)) c.outside.ensures ∙ sym (graph_nodes_over c.args.nodes c.args.total c.args.n c.args.line (c.args.line + 1) (omega arith))
 
 pub overflow_add-line : goal.overflow_add-line
 overflow_add-line c = omega arith
@@ -35,14 +34,12 @@ successors_judged-requires c = (omega arith, omega arith, omega arith, omega ari
 
 pub returns-in-Refused : goal.returns-in-Refused
 returns-in-Refused c =
-    let a = c.args in
-    sym (graph_nodes_stop a.nodes a.total a.n a.line (a.line + 1) (omega arith) _
-    (sym (ap (judged_as (a.line + 1 + 3 * a.n)) c.in-Refused.is) ∙ c.nodes_judged.ensures))
+    sym (graph_nodes_stop c.args.nodes c.args.total c.args.n c.args.line (c.args.line + 1) (omega arith) _
+    (sym (ap (judged_as (c.args.line + 1 + 3 * c.args.n)) c.in-Refused.is) ∙ c.nodes_judged.ensures))
 
 pub returns-in-Passes : goal.returns-in-Passes
 returns-in-Passes c =
-    let a = c.args in
-    let e = a.line + 1 + 3 * a.n in
+    let e = c.args.line + 1 + 3 * c.args.n in
     c.successors_judged.ensures
-    ∙ sym (graph_nodes_pass a.nodes a.total a.n a.line (a.line + 1) (omega arith) e
+    ∙ sym (graph_nodes_pass c.args.nodes c.args.total c.args.n c.args.line (c.args.line + 1) (omega arith) e
     (sym (ap (judged_as e) c.in-Passes.is) ∙ c.nodes_judged.ensures))

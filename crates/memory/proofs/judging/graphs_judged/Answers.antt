@@ -12,21 +12,6 @@ use Rattle.memory.proofs.JudgeLaws.{graph_passed, graphs_one, graphs_stop, graph
 use borrow.Author.Rules.{rules}
 use Rattle.memory.proofs.judging.graphs_judged.Goals as goal
 
--- the graph of a turn that passes
-abbrev this : tie.After-enum-told invariant-loop decreases-loop → PhalandrixGraph
-this c = get_or c.before.before.before.before.before.before.args.t1 c.before.before.before.before.before.loop.g no_graph
-
-passing : (c : tie.After-enum-told invariant-loop decreases-loop)
-    → passes (c.before.before.before.before.before.loop.at + 3 + 3 * (this c).nodes)
-    ≡ graph_at c.before.before.before.before.before.loop.total
-    (graph_in c.before.before.before.before.before.before.args.nodes c.before.before.before.before.before.loop.total (this c))
-    c.before.before.before.before.before.loop.at
-passing c = sym (ap (judged_as _) c.enum_told.given.1) ∙ c.before.before.graph-judged.ensures
-
-few : (c : tie.After-enum-told invariant-loop decreases-loop)
-    → ((this c).nodes ≤ (Limits.nodes).to) × (c.before.before.before.before.before.loop.total + (this c).nodes ≤ (Limits.all_nodes).to)
-few c = graph_passed (this c) c.before.before.before.before.before.before.args.nodes c.before.before.before.before.before.loop.total _ _ (passing c)
-
 pub overflow_add-at : goal.overflow_add-at
 overflow_add-at c = omega arith
 
@@ -47,24 +32,23 @@ graph_judged-requires c = (omega arith, omega arith)
 pub returns-in-Refused : goal.returns-in-Refused
 returns-in-Refused c =
     let st = c.loop-g in
-    let a = c.args in
-    sym (ap judged_of (st.invariant.3 ∙ graphs_stop a.t1 a.nodes st.g a.n st.total st.at (omega arith) _
+    sym (ap judged_of (st.invariant.3 ∙ graphs_stop c.args.graph c.args.nodes st.g c.args.n st.total st.at (omega arith) _
     (sym (ap (judged_as _) c.in-Refused.is) ∙ c.graph_judged.ensures)))
 
 pub overflow_mul-at : goal.overflow_mul-at
-overflow_mul-at c = omega (arith, (few c).0)
+overflow_mul-at c = omega (arith, ((let it : (((let it : PhalandrixGraph = get_or c.args.graph c.loop-g.g no_graph in it)).nodes ≤ (Limits.nodes).to) × (c.loop-g.total + ((let it : PhalandrixGraph = get_or c.args.graph c.loop-g.g no_graph in it)).nodes ≤ (Limits.all_nodes).to) = graph_passed ((let it : PhalandrixGraph = get_or c.args.graph c.loop-g.g no_graph in it)) c.args.nodes c.loop-g.total _ _ ((let it : passes (c.loop-g.at + 3 + 3 * ((let it : PhalandrixGraph = get_or c.args.graph c.loop-g.g no_graph in it)).nodes) ≡ graph_at c.loop-g.total (graph_in c.args.nodes c.loop-g.total ((let it : PhalandrixGraph = get_or c.args.graph c.loop-g.g no_graph in it))) c.loop-g.at = sym (ap (judged_as _) c.in-Passes.is) ∙ c.graph_judged.ensures in it)) in it)).0)
 
 pub overflow_add-at-in-Passes : goal.overflow_add-at-in-Passes
-overflow_add-at-in-Passes c = omega (arith, (few c).0)
+overflow_add-at-in-Passes c = omega (arith, ((let it : (((let it : PhalandrixGraph = get_or c.args.graph c.loop-g.g no_graph in it)).nodes ≤ (Limits.nodes).to) × (c.loop-g.total + ((let it : PhalandrixGraph = get_or c.args.graph c.loop-g.g no_graph in it)).nodes ≤ (Limits.all_nodes).to) = graph_passed ((let it : PhalandrixGraph = get_or c.args.graph c.loop-g.g no_graph in it)) c.args.nodes c.loop-g.total _ _ ((let it : passes (c.loop-g.at + 3 + 3 * ((let it : PhalandrixGraph = get_or c.args.graph c.loop-g.g no_graph in it)).nodes) ≡ graph_at c.loop-g.total (graph_in c.args.nodes c.loop-g.total ((let it : PhalandrixGraph = get_or c.args.graph c.loop-g.g no_graph in it))) c.loop-g.at = sym (ap (judged_as _) c.in-Passes.is) ∙ c.graph_judged.ensures in it)) in it)).0)
 
 pub overflow_add-at-in-Passes-2 : goal.overflow_add-at-in-Passes-2
-overflow_add-at-in-Passes-2 c = omega (arith, (few c).0)
+overflow_add-at-in-Passes-2 c = omega (arith, ((let it : (((let it : PhalandrixGraph = get_or c.args.graph c.loop-g.g no_graph in it)).nodes ≤ (Limits.nodes).to) × (c.loop-g.total + ((let it : PhalandrixGraph = get_or c.args.graph c.loop-g.g no_graph in it)).nodes ≤ (Limits.all_nodes).to) = graph_passed ((let it : PhalandrixGraph = get_or c.args.graph c.loop-g.g no_graph in it)) c.args.nodes c.loop-g.total _ _ ((let it : passes (c.loop-g.at + 3 + 3 * ((let it : PhalandrixGraph = get_or c.args.graph c.loop-g.g no_graph in it)).nodes) ≡ graph_at c.loop-g.total (graph_in c.args.nodes c.loop-g.total ((let it : PhalandrixGraph = get_or c.args.graph c.loop-g.g no_graph in it))) c.loop-g.at = sym (ap (judged_as _) c.in-Passes.is) ∙ c.graph_judged.ensures in it)) in it)).0)
 
 pub overflow_cast-total : goal.overflow_cast-total
-overflow_cast-total c = omega (arith, (few c).0)
+overflow_cast-total c = omega (arith, ((let it : (((let it : PhalandrixGraph = get_or c.args.graph c.loop-g.g no_graph in it)).nodes ≤ (Limits.nodes).to) × (c.loop-g.total + ((let it : PhalandrixGraph = get_or c.args.graph c.loop-g.g no_graph in it)).nodes ≤ (Limits.all_nodes).to) = graph_passed ((let it : PhalandrixGraph = get_or c.args.graph c.loop-g.g no_graph in it)) c.args.nodes c.loop-g.total _ _ ((let it : passes (c.loop-g.at + 3 + 3 * ((let it : PhalandrixGraph = get_or c.args.graph c.loop-g.g no_graph in it)).nodes) ≡ graph_at c.loop-g.total (graph_in c.args.nodes c.loop-g.total ((let it : PhalandrixGraph = get_or c.args.graph c.loop-g.g no_graph in it))) c.loop-g.at = sym (ap (judged_as _) c.in-Passes.is) ∙ c.graph_judged.ensures in it)) in it)).0)
 
 pub overflow_add-total : goal.overflow_add-total
-overflow_add-total c = omega (arith, (few c).1)
+overflow_add-total c = omega (arith, ((let it : (((let it : PhalandrixGraph = get_or c.args.graph c.loop-g.g no_graph in it)).nodes ≤ (Limits.nodes).to) × (c.loop-g.total + ((let it : PhalandrixGraph = get_or c.args.graph c.loop-g.g no_graph in it)).nodes ≤ (Limits.all_nodes).to) = graph_passed ((let it : PhalandrixGraph = get_or c.args.graph c.loop-g.g no_graph in it)) c.args.nodes c.loop-g.total _ _ ((let it : passes (c.loop-g.at + 3 + 3 * ((let it : PhalandrixGraph = get_or c.args.graph c.loop-g.g no_graph in it)).nodes) ≡ graph_at c.loop-g.total (graph_in c.args.nodes c.loop-g.total ((let it : PhalandrixGraph = get_or c.args.graph c.loop-g.g no_graph in it))) c.loop-g.at = sym (ap (judged_as _) c.in-Passes.is) ∙ c.graph_judged.ensures in it)) in it)).1)
 
 pub overflow_add-g : goal.overflow_add-g
 overflow_add-g c = omega arith
@@ -75,18 +59,16 @@ loop-g-smaller c = omega arith
 pub loop-g-preserved : goal.loop-g-preserved
 loop-g-preserved c =
     let st = c.loop-g in
-    let a = c.args in
-    let x = this c in
+    let x = (let it : PhalandrixGraph = get_or c.args.graph c.loop-g.g no_graph in it) in
     let e : st.at + 3 + 3 * x.nodes ≡ st.at + (3 + 3 * x.nodes) = omega arith in (
       omega arith,
-      omega (arith, (few c).1),
-      omega (arith, (few c).0),
-      st.invariant.3 ∙ graphs_one a.t1 a.nodes st.g a.n st.total st.at (omega arith) (st.at + 3 + 3 * x.nodes) (passing c)
-          ∙ ap (graphs_at (st.total + x.nodes) (graphs_in a.t1 a.nodes (st.g + 1) (st.total + x.nodes) (a.n - (st.g + 1)))) e,
+      omega (arith, ((let it : (((let it : PhalandrixGraph = get_or c.args.graph c.loop-g.g no_graph in it)).nodes ≤ (Limits.nodes).to) × (c.loop-g.total + ((let it : PhalandrixGraph = get_or c.args.graph c.loop-g.g no_graph in it)).nodes ≤ (Limits.all_nodes).to) = graph_passed ((let it : PhalandrixGraph = get_or c.args.graph c.loop-g.g no_graph in it)) c.args.nodes c.loop-g.total _ _ ((let it : passes (c.loop-g.at + 3 + 3 * ((let it : PhalandrixGraph = get_or c.args.graph c.loop-g.g no_graph in it)).nodes) ≡ graph_at c.loop-g.total (graph_in c.args.nodes c.loop-g.total ((let it : PhalandrixGraph = get_or c.args.graph c.loop-g.g no_graph in it))) c.loop-g.at = sym (ap (judged_as _) c.in-Passes.is) ∙ c.graph_judged.ensures in it)) in it)).1),
+      omega (arith, ((let it : (((let it : PhalandrixGraph = get_or c.args.graph c.loop-g.g no_graph in it)).nodes ≤ (Limits.nodes).to) × (c.loop-g.total + ((let it : PhalandrixGraph = get_or c.args.graph c.loop-g.g no_graph in it)).nodes ≤ (Limits.all_nodes).to) = graph_passed ((let it : PhalandrixGraph = get_or c.args.graph c.loop-g.g no_graph in it)) c.args.nodes c.loop-g.total _ _ ((let it : passes (c.loop-g.at + 3 + 3 * ((let it : PhalandrixGraph = get_or c.args.graph c.loop-g.g no_graph in it)).nodes) ≡ graph_at c.loop-g.total (graph_in c.args.nodes c.loop-g.total ((let it : PhalandrixGraph = get_or c.args.graph c.loop-g.g no_graph in it))) c.loop-g.at = sym (ap (judged_as _) c.in-Passes.is) ∙ c.graph_judged.ensures in it)) in it)).0),
+      st.invariant.3 ∙ graphs_one c.args.graph c.args.nodes st.g c.args.n st.total st.at (omega arith) (st.at + 3 + 3 * x.nodes) ((let it : passes (c.loop-g.at + 3 + 3 * ((let it : PhalandrixGraph = get_or c.args.graph c.loop-g.g no_graph in it)).nodes) ≡ graph_at c.loop-g.total (graph_in c.args.nodes c.loop-g.total ((let it : PhalandrixGraph = get_or c.args.graph c.loop-g.g no_graph in it))) c.loop-g.at = sym (ap (judged_as _) c.in-Passes.is) ∙ c.graph_judged.ensures in it))
+          ∙ ap (graphs_at (st.total + x.nodes) (graphs_in c.args.graph c.args.nodes (st.g + 1) (st.total + x.nodes) (c.args.n - (st.g + 1)))) e,
     )
 
 pub returns : goal.returns
 returns c =
     let st = c.loop-g in
-    let a = c.args in
-    sym (ap judged_of (st.invariant.3 ∙ graphs_none a.t1 a.nodes st.g a.n st.total st.at (omega arith)))
+    sym (ap judged_of (st.invariant.3 ∙ graphs_none c.args.graph c.args.nodes st.g c.args.n st.total st.at (omega arith)))

@@ -5,7 +5,7 @@ use Rattle.memory.proofs.MaskNumbers.{zero_orderly, mask_orderly}
 use Rattle.memory.proofs.judging.is_orderly.Goals as goal
 
 pub returns-then-mask-eq0 : goal.returns-then-mask-eq0
-returns-then-mask-eq0 c = let a = c.args in zero_orderly a.own a.mask c.if-mask-eq0.true
+returns-then-mask-eq0 c =  zero_orderly c.args.own c.args.mask c.if-mask-eq0.true
 
 pub returns-else-mask-eq0 : goal.returns-else-mask-eq0
-returns-else-mask-eq0 c = let a = c.args in mask_orderly a.own a.mask (omega (arith, c.if-mask-eq0.false)) (omega arith) (omega arith)
+returns-else-mask-eq0 c =  mask_orderly c.args.own c.args.mask (omega (arith, c.if-mask-eq0.false)) (omega arith) (omega arith)

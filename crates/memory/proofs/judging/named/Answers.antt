@@ -29,8 +29,7 @@ loop-left-smaller c = omega arith
 pub loop-left-preserved : goal.loop-left-preserved
 loop-left-preserved c =
     let st = c.loop-left in
-    let a = c.args in
-    (omega arith, st.invariant.1 ∙ named_one a.t1 st.all st.slot st.left (omega arith))
+    (omega arith, st.invariant.1 ∙ named_one c.args.nodes st.all st.slot st.left (omega arith))
 
 pub returns : goal.returns
 returns c =

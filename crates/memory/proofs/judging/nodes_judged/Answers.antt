@@ -26,8 +26,7 @@ node_judged-requires c = (omega arith, omega arith, omega arith)
 pub returns-in-Refused : goal.returns-in-Refused
 returns-in-Refused c =
     let st = c.loop-own in
-    let a = c.args in
-    sym (st.invariant.4 ∙ nodes_stop a.t1 st.slot a.n st.own st.at (omega arith) _
+    sym (st.invariant.4 ∙ nodes_stop c.args.nodes st.slot c.args.n st.own st.at (omega arith) _
     (sym (ap (judged_as (st.at + 3)) c.in-Refused.is) ∙ c.node_judged.ensures))
 
 pub overflow_add-at : goal.overflow_add-at
@@ -45,18 +44,17 @@ loop-own-smaller c = omega arith
 pub loop-own-preserved : goal.loop-own-preserved
 loop-own-preserved c =
     let st = c.loop-own in
-    let a = c.args in (
+     (
       omega arith,
       omega arith,
       omega arith,
       omega arith,
-      st.invariant.4 ∙ nodes_one a.t1 st.slot a.n st.own st.at (omega arith) (st.at + 3)
+      st.invariant.4 ∙ nodes_one c.args.nodes st.slot c.args.n st.own st.at (omega arith) (st.at + 3)
           (sym (ap (judged_as (st.at + 3)) c.in-Passes.is) ∙ c.node_judged.ensures),
     )
 
 pub returns : goal.returns
 returns c =
     let st = c.loop-own in
-    let a = c.args in
-    let e : a.line + 3 * a.n ≡ st.at = omega arith in
-    ap passes e ∙ sym (st.invariant.4 ∙ nodes_none a.t1 st.slot a.n st.own st.at (omega arith))
+    let e : c.args.line + 3 * c.args.n ≡ st.at = omega arith in
+    ap passes e ∙ sym (st.invariant.4 ∙ nodes_none c.args.nodes st.slot c.args.n st.own st.at (omega arith))

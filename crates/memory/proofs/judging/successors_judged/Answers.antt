@@ -14,11 +14,9 @@ unset_below-requires c = omega arith
 
 pub returns-then-unset_below-eq0 : goal.returns-then-unset_below-eq0
 returns-then-unset_below-eq0 c =
-    let a = c.args in
-    successors_pass _ a.line (all_followed_lem a.nodes a.first a.n (omega arith) _ _ c.named.ensures c.unset_below.ensures c.if-unset_below-eq0.true)
+    successors_pass _ c.args.line (all_followed_lem c.args.nodes c.args.first c.args.n (omega arith) _ _ c.named.ensures c.unset_below.ensures c.if-unset_below-eq0.true)
 
 pub returns-else-unset_below-eq0 : goal.returns-else-unset_below-eq0
 returns-else-unset_below-eq0 c =
-    let a = c.args in
-    successors_fail _ a.line _ c.against.ensures
-    (not_followed a.nodes a.first a.n (omega arith) _ _ c.named.ensures c.unset_below.ensures c.if-unset_below-eq0.false)
+    successors_fail _ c.args.line _ c.against.ensures
+    (not_followed c.args.nodes c.args.first c.args.n (omega arith) _ _ c.named.ensures c.unset_below.ensures c.if-unset_below-eq0.false)

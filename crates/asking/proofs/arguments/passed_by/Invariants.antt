@@ -1,0 +1,15 @@
+use mathlib.Core.Path.{◌≡◌, refl, sym, ap, ◌∙◌}
+use Prim.Native.Nat.{◌+◌, ◌-◌}
+use native.Mathlib.Omega.{arith}
+use lib.ListN.{length, drop}
+use borrow.Author.Rules.{rules}
+use Rattle.asking.specs.declared.arguments.Passed.{Passed}
+use Rattle.asking.specs.Arguments.{passed_on, passed_by}
+use Rattle.asking.proofs.Pieces.{one_more_lem, no_more}
+use Rattle.asking.proofs.arguments.passed_by.Given as goal
+
+abbrev pub invariant-loop-i : goal.invariant-loop-i
+invariant-loop-i l = passed_by l.initial.passed l.piece ≡ passed_by l.passed (drop l.i l.piece)
+
+abbrev pub decreases-loop-i : goal.decreases-loop-i
+decreases-loop-i l = length l.piece - l.i

@@ -1,0 +1,13 @@
+-- `is_fixes` meets its contract, by what the scanner of a text found.
+use Rattle.asking.specs.Questions.{fixes}
+use Rattle.asking.proofs.Asking.{word_found, no_word}
+use borrow.Author.Rules.{rules}
+use Rattle.asking.proofs.outputs.is_fixes.Goals as goal
+
+pub returns-in-After : goal.returns-in-After
+returns-in-After c =
+    word_found fixes c.args.word.now _ c.text_at-found.ensures _ c.in-After.is
+
+pub returns-in-Wrong : goal.returns-in-Wrong
+returns-in-Wrong c =
+    no_word fixes c.args.word.now _ c.text_at-found.ensures _ c.in-Wrong.is

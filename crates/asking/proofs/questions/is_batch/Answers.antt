@@ -1,0 +1,13 @@
+-- `is_batch` meets its contract, by what the scanner of a text found.
+use Rattle.asking.specs.Questions.{batch}
+use Rattle.asking.proofs.Asking.{word_found, no_word}
+use borrow.Author.Rules.{rules}
+use Rattle.asking.proofs.questions.is_batch.Goals as goal
+
+pub returns-in-After : goal.returns-in-After
+returns-in-After c =
+    word_found batch c.args.word.now _ c.text_at-found.ensures _ c.in-After.is
+
+pub returns-in-Wrong : goal.returns-in-Wrong
+returns-in-Wrong c =
+    no_word batch c.args.word.now _ c.text_at-found.ensures _ c.in-Wrong.is

@@ -1,0 +1,21 @@
+use mathlib.Core.Path.{◌≡◌, refl, ap}
+use mathlib.Core.List.{List}
+use Prim.Native.Nat.{ℕ, ◌-◌, ◌≤◌}
+use native.Mathlib.Nat.{le_antisymm}
+use native.Mathlib.Omega.{arith}
+use lib.ListN.{get_or, replicate}
+use Rattle.schedule.specs.Limits as Limits
+use Rattle.table.specs.Fresh as Fresh
+use Rattle.window.specs.Loops.{replaced}
+use Rattle.window.proofs.LoopLaws.{replaced_more}
+use Rattle.memory.specs.Plain.{no_node, no_graph}
+use Rattle.memory.specs.declared.plain.PhalandrixGraph.{PhalandrixGraph}
+use Rattle.editing.specs.Plains.{plain_graph, plain_node}
+use borrow.Author.Rules.{rules}
+use Rattle.editing.proofs.plains.nodes_of.Given as goal
+
+abbrev pub invariant-loop-i : goal.invariant-loop-i
+invariant-loop-i l = (l.i ≤ (Limits.all_nodes).to) × (l.list ≡ replaced (λ (k : ℕ). plain_node (get_or l.nodes k Fresh.no_node)) (replicate (Limits.all_nodes).to no_node) l.i)
+
+abbrev pub decreases-loop-i : goal.decreases-loop-i
+decreases-loop-i l = (Limits.all_nodes).to - l.i

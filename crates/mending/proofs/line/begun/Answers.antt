@@ -1,0 +1,6 @@
+-- `begun` meets its contract.
+use borrow.Author.Rules.{rules}
+use Rattle.mending.proofs.line.begun.Goals as goal
+
+pub returns : goal.returns
+returns c = rw (c.either-2.ensures, c.either.ensures)

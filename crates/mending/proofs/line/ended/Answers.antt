@@ -1,0 +1,6 @@
+-- `ended` meets its contract.
+use borrow.Author.Rules.{rules}
+use Rattle.mending.proofs.line.ended.Goals as goal
+
+pub returns : goal.returns
+returns c = rw (c.both.ensures, c.is_zero.ensures)

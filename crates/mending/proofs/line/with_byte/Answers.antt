@@ -1,0 +1,6 @@
+-- `with_byte` meets its contract.
+use borrow.Author.Rules.{rules}
+use Rattle.mending.proofs.line.with_byte.Goals as goal
+
+pub returns : goal.returns
+returns c = rw (c.either.ensures, c.goes.ensures, c.next.ensures, c.settled-q.ensures)
