@@ -4,7 +4,7 @@ use mathlib.Core.Path.{◌≡◌, refl, sym, ap, ◌∙◌}
 use mathlib.Core.Bool.{Bool, ◌&&◌}
 use mathlib.Core.List.{List, [], ◌∷◌, map}
 use mathlib.Core.Option.{Option, none, some}
-use Prim.Native.Nat.{ℕ, zero, suc, ◌+◌, ◌*◌, ◌-◌, ◌<◌, min}
+use Prim.Native.Nat.{ℕ, zero, suc, ◌+◌, ◌*◌, ◌<◌, min}
 use native.Mathlib.Omega.{arith}
 use lib.Dec.{T, eqb, eqb→eq}
 use lib.ListN.{length, get_or}
@@ -16,7 +16,7 @@ use Rattle.schedule.proofs.Cells.{get_or_tab}
 use Rattle.theorems.proofs.StateRows.{row_of, row_is, same_left_lem}
 use Rattle.theorems.proofs.SameState.{same_state_lem}
 use Rattle.window.specs.declared.Plan.{Plan}
-use Rattle.window.specs.Entries.{places, nodes_of}
+use Rattle.window.specs.Entries.{nodes_of}
 use Rattle.window.proofs.Loops.{each_below, all_below_lem}
 use Rattle.window.proofs.Places.{nodes_are, sink_inside}
 use Rattle.window.proofs.Ancestors.{its_sink}

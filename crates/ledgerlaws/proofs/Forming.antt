@@ -27,7 +27,7 @@ use Rattle.window.proofs.Places.{nodes_are}
 use Rattle.ledger.specs.declared.Ledger.{Ledger}
 use Rattle.ledger.specs.declared.Formed.{Formed}
 use Rattle.ledger.specs.Entries.{room, slots, slot_at, offset_at, released_at, complete_at, linked_at, finished_at}
-use Rattle.ledger.specs.Forming.{phase_of, behind_of, job_at, zeros, count_at, left_of, behind_at, shown, form_to, form}
+use Rattle.ledger.specs.Forming.{phase_of, job_at, zeros, count_at, left_of, behind_at, shown, form_to, form}
 use Rattle.ledgerlaws.proofs.Changed.{blocks_at}
 use Rattle.ledgerlaws.proofs.Relation.{Laid, Row, InStep}
 use Rattle.ledgerlaws.proofs.Releasing.{few_released}

@@ -1,8 +1,7 @@
 -- No two ready server jobs have the same rank: the order of rule 5 is total, and one that stands before another has a lower rank.
-use mathlib.Core.Path.{◌≡◌, refl, sym, ap, ◌∙◌}
-use mathlib.Core.Bool.{Bool, true, false, ◌&&◌}
+use mathlib.Core.Path.{◌≡◌, sym, ap, ◌∙◌}
+use mathlib.Core.Bool.{Bool, ◌&&◌}
 use mathlib.Core.List.{List, [], ◌∷◌}
-use mathlib.Core.Logic.{◌⊎◌, inl, inr}
 use Prim.Native.Nat.{ℕ, zero, suc, ◌+◌, ◌*◌, ◌-◌, ◌≤◌, ◌<◌, zero-le}
 use native.Mathlib.Nat.{le_trans, mul-lt-mul_of_pos_right}
 use native.Mathlib.Omega.{arith}
@@ -13,7 +12,7 @@ use Rattle.schedule.specs.Servers.{Server, srv}
 use Rattle.schedule.specs.ServerJobs.{ServerJob, jobs_from, release_of, released, priority_of, before, ready, ready_jobs, rank}
 use Rattle.schedule.proofs.Tests.{and_l, and_r, and_i, by_lt, either_way, dec, true_T, one_of, none_of, one_le_one}
 use Rattle.theorems.proofs.Counts.{server_job, count_keep, count_append}
-use Rattle.theorems.proofs.Ready.{priority, before_is, is_before_lt, is_before_eq, Ready, ready_is}
+use Rattle.theorems.proofs.Ready.{priority, before_is, is_before_lt, is_before_eq, ready_is}
 
 -- p and e do not pass together, and where one of them passes so does q
 count_apart : {A : Type 0} (p e q : A → Bool) → ((x : A) → one? (p x) + one? (e x) ≤ one? (q x)) → (l : List A) → count p l + count e l ≤ count q l

@@ -21,7 +21,7 @@ use Rattle.window.specs.Entries.{places, last_key, further, nodes_of}
 use Rattle.window.proofs.Relation.{last_instant}
 use Rattle.window.proofs.Places.{nodes_are}
 use Rattle.ledger.specs.declared.Ledger.{Ledger}
-use Rattle.ledger.specs.Entries.{room, slots, slot_at}
+use Rattle.ledger.specs.Entries.{room, slot_at}
 use Rattle.ledger.specs.Ranks.{ready_count, rank, run_server, run_to, run}
 use Rattle.ledgerlaws.proofs.Changed.{changed_length, changed_other, changed_at, in_slots, slot_place, slot_number}
 use Rattle.ledgerlaws.proofs.Relation.{Laid, Row, Released, Ran}

@@ -1,14 +1,14 @@
 -- The plain engine's row is document 01's: of each rank below the number of processors the one ready server job that has it.
-use mathlib.Core.Path.{◌≡◌, refl, sym, ap, subst, ◌∙◌}
-use mathlib.Core.Bool.{Bool, true, false, ◌&&◌, cond}
+use mathlib.Core.Path.{◌≡◌, refl, sym, ap, ◌∙◌}
+use mathlib.Core.Bool.{Bool, true, false, ◌&&◌}
 use mathlib.Core.List.{List, [], ◌∷◌, ◌++◌, append-nil, map, map-append}
 use mathlib.Core.Logic.{◌⊎◌, inl, inr}
 use Prim.Native.Nat.{ℕ, zero, suc, ◌+◌, ◌-◌, ◌≤◌, ◌<◌, min}
 use native.Mathlib.Nat.{not-suc-le-zero, zero-add}
 use native.Mathlib.Numerals.{add-one}
 use native.Mathlib.Omega.{arith}
-use lib.Dec.{T, ltb, eqb, eqb→eq}
-use lib.ListN.{length, get_or, set, take, replicate, length-set, length-replicate}
+use lib.Dec.{T, eqb, eqb→eq}
+use lib.ListN.{length, get_or, set, take}
 use lib.Seq.{take-suc-set}
 use borrow.Author.Tests.{lt-ltb, le-ltb, eqb-true, eqb-false}
 use Rattle.schedule.specs.Limits as Limits
@@ -24,17 +24,16 @@ use Rattle.theorems.proofs.Ready.{ready_is}
 use Rattle.theorems.proofs.InTurn.{completed, no_budget}
 use Rattle.theorems.proofs.Linking.{link_of}
 use Rattle.window.specs.declared.Plan.{Plan}
-use Rattle.window.specs.Entries.{places, last_key, nodes_of}
+use Rattle.window.specs.Entries.{nodes_of}
 use Rattle.window.proofs.Relation.{last_instant}
 use Rattle.window.proofs.Places.{nodes_are}
 use Rattle.rows.proofs.Lists.{joined_last, joined_one, keep_joined, keep_keep, keep_neither, jobs_none, jobs_one}
-use Rattle.writing.specs.declared.row.Run.{Run}
 use Rattle.writing.specs.declared.row.Row.{Row}
 use Rattle.writing.specs.Row.{running_of, running_in}
 use Rattle.ledger.specs.declared.Ledger.{Ledger}
 use Rattle.ledger.specs.declared.Found.{Found}
 use Rattle.ledger.specs.Entries.{link_at}
-use Rattle.ledger.specs.Ranks.{ready_count, rank, found_by, found_in, found_to, found}
+use Rattle.ledger.specs.Ranks.{ready_count, rank, found_by, found_in, found_to}
 use Rattle.ledgerlaws.proofs.Relation.{Laid, Released}
 use Rattle.ledgerlaws.proofs.Ranks.{ready_after, is_ready_lem, rank_is}
 use Rattle.ledgerlaws.proofs.OneRank.{one_rank}

@@ -101,6 +101,13 @@ some_done left count i e h =
       leb-true n window (T_true (and_l (leb n window) z (and_r (ltb 0 n) (leb n window && z) t))),
     )
 
+-- no more are chosen than there are processors
+pub few_picked : (first count level step : List ℕ) (n processors m : ℕ) {run at : List ℕ} → Picked (picks first count level step n no_run no_at processors) m run at
+    → processors ≤ (Limits.processors).to → m ≤ (Limits.processors).to
+few_picked first count level step n processors m picked h =
+    let most = picks_most first count level step n no_run no_at processors in
+    omega (arith, picked.0)
+
 -- a span's choice, and its work
 module _ (plan : Plan) (t boundary asked n m release : ℕ) (run at : List ℕ) (a : State) (same : n ≡ nodes_of plan)
     (picked : Picked (picks a.first a.count plan.level plan.step n no_run no_at plan.processors) m run at) (r : release ≡ earliest a.next n) where
@@ -112,11 +119,6 @@ module _ (plan : Plan) (t boundary asked n m release : ℕ) (run at : List ℕ) 
   span_is most d e f =
       let next : release ≡ earliest a.next (nodes_of plan) = rw same at r in
       rw (← next, ← c.0, ← c.1.1, ← e) f
-
-  pub few_picked : plan.processors ≤ (Limits.processors).to → m ≤ (Limits.processors).to
-  few_picked h =
-      let most = picks_most a.first a.count plan.level plan.step n no_run no_at plan.processors in
-      omega (arith, picked.0)
 
   pub worked_all : (d k : ℕ) (left : List ℕ) {later : State} → left ≡ spent a.left at d m
       → later ≡ in_turn (λ (u : State) (r : ℕ). finish_at plan (t + d) u (place_of (get_or run r 0))) (with_left a left) k → k ≤ m → m ≤ k
