@@ -16,10 +16,10 @@ loop-g-init c = (search rules, refl)
 
 pub loop-g-preserved : goal.loop-g-preserved
 loop-g-preserved c =
-    let A = c.args in (
+     (
       search rules,
-      replaced_more (figure_in A.t1 A.t2) (replicate (Limits.graphs).to 0) c.loop-g.g c.loop-g.invariant.1
-          (c.worst_at.ensures ∙ ap (worst_at A.t2) c.sink_of.ensures),
+      replaced_more (figure_in c.args.graph c.args.worst) (replicate (Limits.graphs).to 0) c.loop-g.g c.loop-g.invariant.1
+          (c.worst_at.ensures ∙ ap (worst_at c.args.worst) c.sink_of.ensures),
     )
 
 pub returns : goal.returns

@@ -11,8 +11,7 @@ use borrow.Author.Rules.{rules}
 use Rattle.sheet.proofs.rowing.row.Goals as goal
 
 pub returns-then-instant : goal.returns-then-instant
-returns-then-instant c =
-    planned_above _ c.planned-p.result c.planned-p.ensures c.in-Passed.is _ _ _ c.told_with-then-instant.result c.if-instant.true (told_refused _ _ _ c.told_with-then-instant.ensures)
+returns-then-instant c = let r = (planned_above _ c.planned-p.result c.planned-p.ensures c.in-Passed.is _ _ _ c.told_with-then-instant.result c.if-instant.true (told_refused _ _ _ c.told_with-then-instant.ensures)) in record { call = r.0; walked = r.1 }
 
 pub walk_to-w-requires : goal.walk_to-w-requires
 walk_to-w-requires c =
@@ -48,28 +47,23 @@ put_row-requires-in-Settled c =
     rw c.far_row-far.ensures (far_few _ _ _ _ _ (rw c.shown-there.ensures (row_few _ _ _ (planned_walkable _ c.planned-p.result c.planned-p.ensures c.in-Passed.is).0)))
 
 pub returns-in-Refused : goal.returns-in-Refused
-returns-in-Refused c =
-    refused_told _ _ _ _ c.told_with.result (planned_refused _ c.planned-p.result c.planned-p.ensures _ c.in-Refused.is) c.told_with.ensures
+returns-in-Refused c = let r = (refused_told _ _ _ _ c.told_with.result (planned_refused _ c.planned-p.result c.planned-p.ensures _ c.in-Refused.is) c.told_with.ensures) in record { call = r.0; walked = r.1 }
 
 pub returns-in-Reached : goal.returns-in-Reached
-returns-in-Reached c =
-    planned_near _ c.planned-p.result c.planned-p.ensures c.in-Passed.is _ c.if-instant.false c.walk_to-w.result c.walk_to-w.ensures _ _ c.put_row.result
-    c.in-Reached.is c.shown.result c.shown.ensures c.put_row.ensures
+returns-in-Reached c = let r = (planned_near _ c.planned-p.result c.planned-p.ensures c.in-Passed.is _ c.if-instant.false c.walk_to-w.result c.walk_to-w.ensures _ _ c.put_row.result
+    c.in-Reached.is c.shown.result c.shown.ensures c.put_row.ensures) in record { call = r.0; walked = r.1 }
 
 pub returns-in-Settled : goal.returns-in-Settled
-returns-in-Settled c =
-    let p = c.planned-p.result in
+returns-in-Settled c = let r = (let p = c.planned-p.result in
     planned_far _ c.planned-p.result c.planned-p.ensures c.in-Passed.is _ c.if-instant.false c.walk_to-w.result c.walk_to-w.ensures _ _ c.put_row-in-Settled.result _
     c.in-Settled.is c.walk_to-u.result
     (c.walk_to-u.ensures ∙ ap (λ (at : ℕ). walk_of p.plan p.offsets p.origin p.hyperperiod p.rounds at) c.matching-at.ensures)
-    c.shown-there.result c.far_row-far.result c.shown-there.ensures c.far_row-far.ensures c.put_row-in-Settled.ensures
+    c.shown-there.result c.far_row-far.result c.shown-there.ensures c.far_row-far.ensures c.put_row-in-Settled.ensures) in record { call = r.0; walked = r.1 }
 
 pub returns-in-Unsettled : goal.returns-in-Unsettled
-returns-in-Unsettled c =
-    planned_stopped _ c.planned-p.result c.planned-p.ensures c.in-Passed.is _ c.if-instant.false c.walk_to-w.result c.walk_to-w.ensures _ _ c.told_with-in-Unsettled.result
-    (ap end_by c.in-Unsettled.is) (told_refused _ _ _ c.told_with-in-Unsettled.ensures)
+returns-in-Unsettled c = let r = (planned_stopped _ c.planned-p.result c.planned-p.ensures c.in-Passed.is _ c.if-instant.false c.walk_to-w.result c.walk_to-w.ensures _ _ c.told_with-in-Unsettled.result
+    (ap end_by c.in-Unsettled.is) (told_refused _ _ _ c.told_with-in-Unsettled.ensures)) in record { call = r.0; walked = r.1 }
 
 pub returns-in-Backlog : goal.returns-in-Backlog
-returns-in-Backlog c =
-    planned_stopped _ c.planned-p.result c.planned-p.ensures c.in-Passed.is _ c.if-instant.false c.walk_to-w.result c.walk_to-w.ensures _ _ c.told_with-in-Backlog.result
-    (ap end_by c.in-Backlog.is) (told_refused _ _ _ c.told_with-in-Backlog.ensures)
+returns-in-Backlog c = let r = (planned_stopped _ c.planned-p.result c.planned-p.ensures c.in-Passed.is _ c.if-instant.false c.walk_to-w.result c.walk_to-w.ensures _ _ c.told_with-in-Backlog.result
+    (ap end_by c.in-Backlog.is) (told_refused _ _ _ c.told_with-in-Backlog.ensures)) in record { call = r.0; walked = r.1 }
