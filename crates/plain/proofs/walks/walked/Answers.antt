@@ -1,0 +1,14 @@
+-- `walked` meets its contract: the plan, the offsets and the largest offset are those of the table.
+use mathlib.Core.Path.{◌∙◌}
+use Rattle.plainlaws.specs.Walks.{walk_of_table}
+use borrow.Author.Rules.{rules}
+use Rattle.plain.proofs.walks.walked.Goals as goal
+
+pub walk_to-requires : goal.walk_to-requires
+walk_to-requires c =
+    rw c.largest_offset-origin.ensures (c.requires.in_time, c.requires.hyper_some)
+
+pub returns : goal.returns
+unfolding walk_of_table
+returns c =
+    c.walk_to.ensures ∙ rw (c.plan_of-plan.ensures, c.offsets_of-offsets.ensures, c.largest_offset-origin.ensures)
