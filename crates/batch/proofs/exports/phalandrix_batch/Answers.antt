@@ -18,7 +18,8 @@ returns-then-not-is_batch c =
 pub shared_out-requires : goal.shared_out-requires
 shared_out-requires c =
     let yes : c.is_batch.result ≡ true = c.if-not-is_batch.false in
-    add_up_says _ _ (sym c.is_batch.ensures ∙ yes)
+    let r = add_up_says c.args.tables.now c.args.lengths.now (sym c.is_batch.ensures ∙ yes) in
+    record { in_bounds = r.0; lengths_value = r.1 }
 
 pub returns : goal.returns
 returns c =

@@ -1,0 +1,14 @@
+use mathlib.Core.Path.{◌≡◌, ◌∙◌}
+use Prim.Native.Nat.{◌+◌, ◌-◌, ◌*◌, ◌≤◌}
+use native.Mathlib.Omega.{arith}
+use lib.ListN.{length}
+use borrow.Author.Rules.{rules}
+use Rattle.printing.specs.Batches.{slot_bytes}
+use Rattle.printing.proofs.Batches.{Put, begun, put_length, put_within, next_room, put_next}
+use Rattle.printing.proofs.batching.put_tables.Given as goal
+
+abbrev pub invariant-loop-i : goal.invariant-loop-i
+invariant-loop-i l = Put l.lengths l.room l.initial.text l.text l.at l.i × (l.i ≤ length l.lengths)
+
+abbrev pub decreases-loop-i : goal.decreases-loop-i
+decreases-loop-i l = length l.lengths - l.i
