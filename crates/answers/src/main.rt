@@ -3,13 +3,19 @@
 // rows at the first instants, what reading comes to, or the same of each cut of the table.
 #![tactic(auto)]
 
-ghost use Rattle.std.specs.Prelude.{◌<◌, ◌≤◌, length};
+ghost use Rattle.std.specs.Prelude.{◌<◌, ◌≤◌, length, IfOk};
 
 use admission::{Admitted, Verdict};
 use format::Refusal;
-use libc::{STDIN_FILENO, STDOUT_FILENO};
 use rules::Answer;
+use std::io;
+use std::io::Read;
 use table::Table;
+
+// The room for what a table's report or row is, and for all cases.
+const TEXT_ROOM: usize = 4096;
+
+const CASES_ROOM: usize = 65536;
 
 const REPORT: u8 = b'#';
 
@@ -22,102 +28,105 @@ const CUTS: u8 = b'$';
 // Past the stop of every table whose rows are printed here. After them come the last instant and the one past it.
 const INSTANTS: u64 = 10;
 
-fn print_field(name: &[u8], v: u32, end: &[u8]) {
-    io::write_all(STDOUT_FILENO, name);
-    io::print_decimal(STDOUT_FILENO, v as u64);
-    io::write_all(STDOUT_FILENO, end);
+fn print_field(rt: HostRuntime, name: &[u8], v: u32, end: &[u8]) -> io::Result<()> {
+    rt.write_all(name)?;
+    rt.print(v)?;
+    rt.write_all(end)
 }
 
 // A refusal's number, line and column.
-fn print_refusal(f: Refusal, between: &[u8]) {
-    print_field(b"answer=", writing::number_of(f), between);
-    print_field(b"line=", writing::line_of(f), between);
-    print_field(b"column=", writing::column_of(f), b"\n");
+fn print_refusal(rt: HostRuntime, f: Refusal, between: &[u8]) -> io::Result<()> {
+    print_field(rt, b"answer=", writing::number_of(f), between)?;
+    print_field(rt, b"line=", writing::line_of(f), between)?;
+    print_field(rt, b"column=", writing::column_of(f), b"\n")
 }
 
-fn print_text(buffer: &[u8], n: usize) {
+fn print_text(rt: HostRuntime, buffer: &[u8], n: usize) -> io::Result<()> {
     if n <= buffer.len() {
-        io::write_all(STDOUT_FILENO, &buffer[..n]);
+        rt.write_all(&buffer[..n])?;
     }
+    Ok(())
 }
 
-fn print_answer(a: Answer, buffer: &[u8]) {
+fn print_answer(rt: HostRuntime, a: Answer, buffer: &[u8]) -> io::Result<()> {
     match a {
-        Answer::Text(n) => print_text(buffer, n),
-        Answer::Refused(f) => print_refusal(f, b"\n"),
+        Answer::Text(n) => print_text(rt, buffer, n),
+        Answer::Refused(f) => print_refusal(rt, f, b"\n"),
     }
 }
 
-fn print_report(label: &[u8], table: &[u8]) {
-    let mut space = io::buffer();
-    io::write_all(STDOUT_FILENO, b"# ");
-    io::write_all(STDOUT_FILENO, label);
-    io::write_all(STDOUT_FILENO, b"\n");
+fn print_report(rt: HostRuntime, label: &[u8], table: &[u8]) -> io::Result<()> {
+    let mut space = [0u8; TEXT_ROOM];
+    rt.write_all(b"# ")?;
+    rt.write_all(label)?;
+    rt.write_all(b"\n")?;
     let a = sheet::report(table, &mut space);
-    print_answer(a, &space);
+    print_answer(rt, a, &space)
 }
 
-fn print_row(label: &[u8], table: &[u8], instant: u64) {
-    let mut space = io::buffer();
-    io::write_all(STDOUT_FILENO, b"# ");
-    io::write_all(STDOUT_FILENO, label);
-    io::write_all(STDOUT_FILENO, b", row at ");
-    io::print_decimal(STDOUT_FILENO, instant);
-    io::write_all(STDOUT_FILENO, b"\n");
+fn print_row(rt: HostRuntime, label: &[u8], table: &[u8], instant: u64) -> io::Result<()> {
+    let mut space = [0u8; TEXT_ROOM];
+    rt.write_all(b"# ")?;
+    rt.write_all(label)?;
+    rt.write_all(b", row at ")?;
+    rt.print(instant)?;
+    rt.write_all(b"\n")?;
     let r = sheet::row(table, instant, &mut space);
     let answer = r.answer;
-    print_answer(answer, &space);
+    print_answer(rt, answer, &space)
 }
 
-fn print_rows(label: &[u8], table: &[u8]) {
+fn print_rows(rt: HostRuntime, label: &[u8], table: &[u8]) -> io::Result<()> {
     let mut t: u64 = 0;
     while t < INSTANTS {
-        print_row(label, table, t);
+        print_row(rt, label, table, t)?;
         t += 1;
     }
+    Ok(())
 }
 
 // At the last instant, and at the one past it.
-fn print_far_rows(label: &[u8], table: &[u8]) {
-    print_row(label, table, Table::INSTANT_TO as u64);
-    print_row(label, table, Table::INSTANT_TO as u64 + 1);
+fn print_far_rows(rt: HostRuntime, label: &[u8], table: &[u8]) -> io::Result<()> {
+    print_row(rt, label, table, Table::INSTANT_TO as u64)?;
+    print_row(rt, label, table, Table::INSTANT_TO as u64 + 1)
 }
 
 // `answer=0 hyperperiod=` of an admitted table, and else `answer=` with the number, `line=` and `column=`.
-fn print_admitted(a: Admitted) {
+fn print_admitted(rt: HostRuntime, a: Admitted) -> io::Result<()> {
     let verdict = a.verdict;
     match verdict {
         Verdict::Passed => {
-            print_field(b"answer=", 0, b" ");
-            print_field(b"hyperperiod=", a.hyperperiod, b"\n");
+            print_field(rt, b"answer=", 0, b" ")?;
+            print_field(rt, b"hyperperiod=", a.hyperperiod, b"\n")
         }
-        Verdict::Refused(f) => print_refusal(f, b" "),
+        Verdict::Refused(f) => print_refusal(rt, f, b" "),
     }
 }
 
-fn print_reading(label: &[u8], table: &[u8]) {
-    io::write_all(STDOUT_FILENO, label);
-    io::write_all(STDOUT_FILENO, b": ");
-    print_admitted(admission::admit(table));
+fn print_reading(rt: HostRuntime, label: &[u8], table: &[u8]) -> io::Result<()> {
+    rt.write_all(label)?;
+    rt.write_all(b": ")?;
+    print_admitted(rt, admission::admit(table))
 }
 
 // The table cut after n bytes.
-fn print_cut(label: &[u8], table: &[u8], n: usize)
+fn print_cut(rt: HostRuntime, label: &[u8], table: &[u8], n: usize) -> io::Result<()>
     requires { n ≤ length table.now }
 {
-    io::write_all(STDOUT_FILENO, label);
-    io::write_all(STDOUT_FILENO, b", ");
-    io::print_decimal(STDOUT_FILENO, n as u64);
-    io::write_all(STDOUT_FILENO, b" bytes: ");
-    print_admitted(admission::admit(&table[..n]));
+    rt.write_all(label)?;
+    rt.write_all(b", ")?;
+    rt.print(n)?;
+    rt.write_all(b" bytes: ")?;
+    print_admitted(rt, admission::admit(&table[..n]))
 }
 
-fn print_cuts(label: &[u8], table: &[u8]) {
+fn print_cuts(rt: HostRuntime, label: &[u8], table: &[u8]) -> io::Result<()> {
     let mut n: usize = 0;
     while n < table.len() {
-        print_cut(label, table, n);
+        print_cut(rt, label, table, n)?;
         n += 1;
     }
+    Ok(())
 }
 
 fn is_mark(c: u8) -> bool {
@@ -153,44 +162,61 @@ fn mark_from(s: &[u8], from: usize) -> usize
     p
 }
 
-fn print_as(mark: u8, label: &[u8], table: &[u8]) {
+fn print_as(rt: HostRuntime, mark: u8, label: &[u8], table: &[u8]) -> io::Result<()> {
     if mark == REPORT {
-        print_report(label, table);
+        print_report(rt, label, table)
     } else if mark == ROWS {
-        print_rows(label, table);
-        print_far_rows(label, table);
+        print_rows(rt, label, table)?;
+        print_far_rows(rt, label, table)
     } else if mark == READING {
-        print_reading(label, table);
+        print_reading(rt, label, table)
     } else {
-        print_cuts(label, table);
+        print_cuts(rt, label, table)
     }
 }
 
 // The case whose mark stands at p, and where it ends.
-fn print_case(s: &[u8], p: usize) -> usize
+fn print_case(rt: HostRuntime, s: &[u8], p: usize) -> io::Result<usize>
     requires { p < length s.now }
-    ensures { (p < result) × (result ≤ length s.now) }
+    ensures { IfOk result (λ end. (p < end) × (end ≤ length s.now)) }
 {
     let label = p + 1;
     let feed = line_feed_from(s, label);
     if feed == s.len() {
-        return feed;
+        return Ok(feed);
     }
     let table = feed + 1;
     let end = mark_from(s, table);
-    print_as(s[p], &s[label..feed], &s[table..end]);
-    end
+    print_as(rt, s[p], &s[label..feed], &s[table..end])?;
+    Ok(end)
 }
 
-fn print_cases(s: &[u8]) {
+fn print_cases(rt: HostRuntime, s: &[u8]) -> io::Result<()> {
     let mut p: usize = 0;
     while p < s.len() {
-        p = print_case(s, p);
+        p = print_case(rt, s, p)?;
     }
+    Ok(())
 }
 
-fn main() {
-    let mut space = io::large_buffer();
-    let n = io::read_full(STDIN_FILENO, &mut space);
-    print_cases(&space[..n]);
+// Until the input ends or the space is full: how many bytes there are.
+fn read_cases(rt: HostRuntime, space: &mut [u8]) -> io::Result<usize>
+    ensures { IfOk result (λ n. n ≤ length space.new) }
+{
+    let mut source = rt.stdin();
+    let mut done: usize = 0;
+    while done < space.len() {
+        let n = source.read(&mut space[done..])?;
+        if n == 0 {
+            break;
+        }
+        done += n;
+    }
+    Ok(done)
+}
+
+fn main(rt: HostRuntime) -> io::Result<()> {
+    let mut space = [0u8; CASES_ROOM];
+    let n = read_cases(rt, &mut space)?;
+    print_cases(rt, &space[..n])
 }

@@ -1,13 +1,10 @@
 -- What a read leaves.
-use Rattle.std.specs.Prelude.{cond, List, ℕ, zero, suc, ◌+◌, ◌≤◌, ◌<◌, ltb, length, get_or, ℤ, pos, negsuc}
+use Rattle.std.specs.Prelude.{cond, List, ℕ, zero, suc, ◌+◌, ◌≤◌, ◌<◌, ltb, min, length, get_or, Result, Ok, Err}
+use Rattle.std.specs.declared.io.Error.{Error}
 use Rattle.scanning.specs.Positions.{far}
-use Rattle.io.specs.Counts.{clamp_len}
 use Rattle.inputs.specs.declared.reading.Input.{Input}
-use Rattle.inputs.specs.declared.reading.Input.TheVariants as Input
 use Rattle.inputs.specs.declared.reading.Progress.{Progress}
-use Rattle.inputs.specs.declared.reading.Progress.TheVariants as Progress
 use Rattle.inputs.specs.declared.reading.Taken.{Taken}
-use Rattle.inputs.specs.declared.reading.Taken.TheVariants as Taken
 use Rattle.inputs.specs.declared.reading.Reading.{Reading}
 use Rattle.inputs.specs.declared.reading.Reading.TheVariants.{More, Ended, Failed}
 
@@ -16,36 +13,36 @@ abbrev pub counted : ℕ → Reading
 counted zero = Ended
 counted (suc n) = More (suc n)
 
--- a read into `size` bytes that returned a number below 0 has failed, and is not the end
-abbrev pub after_read : ℤ → ℕ → Reading
-after_read (negsuc k) size = Failed
-after_read (pos k) size = counted (clamp_len (pos k) size)
+-- a read into `size` bytes that returned an error has failed, and is not the end
+abbrev pub after_read : Result ℕ Error → ℕ → Reading
+after_read (Err e) size = Failed e
+after_read (Ok k) size = counted (min k size)
 
 -- a read that goes on has read a byte at least, and no more than `size`
 abbrev pub Read : ℕ → Reading → Type 0
 Read size (More n) = (0 < n) × (n ≤ size)
 Read size Ended = Unit {0}
-Read size Failed = Unit {0}
+Read size (Failed e) = Unit {0}
 
 -- what a read behind `done` bytes makes of the input: at the end what is there, and after a failure none
 abbrev pub input_after : ℕ → Reading → Progress
 input_after done (More n) = Progress.On n
 input_after done Ended = Progress.Over (Input.Bytes done)
-input_after done Failed = Progress.Over Input.Failed
+input_after done (Failed e) = Progress.Over (Input.Failed e)
 
 abbrev pub Within : ℕ → Input → Type 0
 Within room (Input.Bytes n) = n ≤ room
-Within room Input.Failed = Unit {0}
+Within room (Input.Failed e) = Unit {0}
 
 -- whether an input fills n bytes, and whether it has none
 abbrev pub filled_by : Input → ℕ → Taken
 filled_by (Input.Bytes m) n = cond (ltb m n) Taken.Wrong Taken.Whole
-filled_by Input.Failed n = Taken.Failed
+filled_by (Input.Failed e) n = Taken.Failed e
 
 abbrev pub ended_by : Input → Taken
 ended_by (Input.Bytes zero) = Taken.Whole
 ended_by (Input.Bytes (suc n)) = Taken.Wrong
-ended_by Input.Failed = Taken.Failed
+ended_by (Input.Failed e) = Taken.Failed e
 
 -- behind `done` bytes: a byte more at least, and none past the room
 abbrev pub Further : ℕ → ℕ → Progress → Type 0
@@ -60,10 +57,10 @@ piece_bytes = 512
 abbrev pub IsLength : ℕ → Taken → Type 0
 IsLength bytes Taken.Whole = bytes < far
 IsLength bytes Taken.Wrong = Unit {0}
-IsLength bytes Taken.Failed = Unit {0}
+IsLength bytes (Taken.Failed e) = Unit {0}
 
 -- and so of all of them
 abbrev pub AreLengths : List ℕ → Taken → Type 0
 AreLengths lengths Taken.Whole = (i : ℕ) → i < length lengths → get_or lengths i 0 < far
 AreLengths lengths Taken.Wrong = Unit {0}
-AreLengths lengths Taken.Failed = Unit {0}
+AreLengths lengths (Taken.Failed e) = Unit {0}

@@ -2,6 +2,9 @@
 ghost use Rattle.std.specs.Prelude.{◌≡◌, ◌≤◌, length};
 ghost use Rattle.inputs.specs.Inputs.{after_read, Read, input_after, Further, Within, filled_by, ended_by};
 
+use printing::least;
+use std::io;
+
 // A piece of an input.
 pub const PIECE: usize = 512;
 
@@ -10,14 +13,14 @@ pub const PIECE: usize = 512;
 pub enum Reading {
     More(usize),
     Ended,
-    Failed,
+    Failed(io::Error),
 }
 
 // An input, as far as there is room for it.
 #[derive(Clone, Copy)]
 pub enum Input {
     Bytes(usize),
-    Failed,
+    Failed(io::Error),
 }
 
 // Reading goes on behind so many bytes more, or is over.
@@ -32,18 +35,21 @@ pub enum Progress {
 pub enum Taken {
     Whole,
     Wrong,
-    Failed,
+    Failed(io::Error),
 }
 
 // After a read into `part` that returned `got`.
-pub fn after_read(got: isize, part: &[u8]) -> Reading
+pub fn after_read(got: io::Result<usize>, part: &[u8]) -> Reading
     ensures value { result ≡ after_read got (length part.now) }
     ensures read { Read (length part.now) result }
 {
-    if got < 0 {
-        return Reading::Failed;
-    }
-    let n = io::count(got, part);
+    let k = match got {
+        Ok(k) => k,
+        Err(e) => {
+            return Reading::Failed(e);
+        }
+    };
+    let n = least(k, part.len());
     if n == 0 {
         return Reading::Ended;
     }
@@ -57,28 +63,28 @@ pub fn input_after(done: usize, reading: Reading) -> Progress
     match reading {
         Reading::More(n) => Progress::On(n),
         Reading::Ended => Progress::Over(Input::Bytes(done)),
-        Reading::Failed => Progress::Over(Input::Failed),
+        Reading::Failed(e) => Progress::Over(Input::Failed(e)),
     }
 }
 
 // One read behind the bytes that are there.
-pub fn read_more(fd: i32, space: &mut [u8], done: usize) -> Progress
+pub fn read_more<R: io::Read>(source: &mut R, space: &mut [u8], done: usize) -> Progress
     requires { done ≤ length space.old }
     ensures { Further done (length space.old) result }
 {
     let part: &mut [u8] = &mut space[done..];
-    let got = libc::read(fd, part);
+    let got = source.read(&mut *part);
     let reading = after_read(got, part);
     input_after(done, reading)
 }
 
 // Until the input ends or the space is full: what comes after that is not read.
-pub fn read_input(fd: i32, space: &mut [u8]) -> Input
+pub fn read_input<R: io::Read>(source: &mut R, space: &mut [u8]) -> Input
     ensures { Within (length space.old) result }
 {
     let mut done: usize = 0;
     while done < space.len() {
-        let progress = read_more(fd, &mut *space, done);
+        let progress = read_more(&mut *source, &mut *space, done);
         match progress {
             Progress::On(n) => {
                 done += n;
@@ -96,7 +102,7 @@ pub fn filled(input: Input, n: usize) -> Taken
     ensures { result ≡ filled_by input n }
 {
     match input {
-        Input::Failed => Taken::Failed,
+        Input::Failed(e) => Taken::Failed(e),
         Input::Bytes(m) => { if m < n { Taken::Wrong } else { Taken::Whole } }
     }
 }
@@ -106,7 +112,7 @@ pub fn ended(input: Input) -> Taken
     ensures { result ≡ ended_by input }
 {
     match input {
-        Input::Failed => Taken::Failed,
+        Input::Failed(e) => Taken::Failed(e),
         Input::Bytes(n) => { if n == 0 { Taken::Whole } else { Taken::Wrong } }
     }
 }

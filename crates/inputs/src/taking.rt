@@ -6,41 +6,42 @@ ghost use Rattle.inputs.specs.Inputs.{piece_bytes, IsLength, AreLengths};
 
 use crate::reading::{PIECE, Taken, ended, filled, read_input};
 use printing::{SLOT, least};
+use std::io::Read;
 
 // The bytes that come next, into all of the space; and whether none comes next.
-fn fill(fd: i32, space: &mut [u8]) -> Taken {
+fn fill<R: Read>(source: &mut R, space: &mut [u8]) -> Taken {
     let n = space.len();
-    let input = read_input(fd, space);
+    let input = read_input(&mut *source, space);
     filled(input, n)
 }
 
-fn at_end(fd: i32) -> Taken {
+fn at_end<R: Read>(source: &mut R) -> Taken {
     let mut byte = [0u8; 1];
-    let input = read_input(fd, &mut byte);
+    let input = read_input(&mut *source, &mut byte);
     ended(input)
 }
 
 // Bytes that nobody needs: a piece of them, and all.
-fn skip_piece(fd: i32, n: usize) -> Taken
+fn skip_piece<R: Read>(source: &mut R, n: usize) -> Taken
     requires { n ≤ piece_bytes }
 {
     let mut piece = [0u8; PIECE];
-    fill(fd, &mut piece[..n])
+    fill(&mut *source, &mut piece[..n])
 }
 
-fn skip(fd: i32, n: usize) -> Taken {
+fn skip<R: Read>(source: &mut R, n: usize) -> Taken {
     let mut left = n;
     while left > 0 {
         let k = least(left, PIECE);
-        match skip_piece(fd, k) {
+        match skip_piece(&mut *source, k) {
             Taken::Whole => {
                 left -= k;
             }
             Taken::Wrong => {
                 return Taken::Wrong;
             }
-            Taken::Failed => {
-                return Taken::Failed;
+            Taken::Failed(e) => {
+                return Taken::Failed(e);
             }
         }
     }
@@ -49,7 +50,7 @@ fn skip(fd: i32, n: usize) -> Taken {
 
 // The next table of an input, of that length. Of one that is longer than its slot, what does not fit is passed over: a slot past the limit of a
 // table's bytes holds enough to refuse it. The largest u32 stands for every length that is none.
-fn take_table(fd: i32, bytes: usize, slot: &mut [u8]) -> Taken
+fn take_table<R: Read>(source: &mut R, bytes: usize, slot: &mut [u8]) -> Taken
     ensures { IsLength bytes result }
 {
     if u32::MAX as usize <= bytes {
@@ -57,17 +58,17 @@ fn take_table(fd: i32, bytes: usize, slot: &mut [u8]) -> Taken
     }
     let size = slot.len();
     if bytes <= size {
-        return fill(fd, &mut slot[..bytes]);
+        return fill(&mut *source, &mut slot[..bytes]);
     }
-    match fill(fd, slot) {
-        Taken::Whole => skip(fd, bytes - size),
+    match fill(&mut *source, slot) {
+        Taken::Whole => skip(&mut *source, bytes - size),
         Taken::Wrong => Taken::Wrong,
-        Taken::Failed => Taken::Failed,
+        Taken::Failed(e) => Taken::Failed(e),
     }
 }
 
 // The tables of an input, each into its slot; and whether the input ends with the last.
-pub fn take_tables(fd: i32, lengths: &[usize], room: &mut [u8]) -> Taken
+pub fn take_tables<R: Read>(source: &mut R, lengths: &[usize], room: &mut [u8]) -> Taken
     requires lengths_len_bound { length lengths.now ≤ (Limits.tables).to }
     requires slots_bytes_in_bounds { slots_bytes ≤ length room.old }
     ensures { AreLengths lengths.now result }
@@ -76,17 +77,17 @@ pub fn take_tables(fd: i32, lengths: &[usize], room: &mut [u8]) -> Taken
     while i < lengths.len() {
         let start = i * SLOT;
         let end = start + SLOT;
-        match take_table(fd, lengths[i], &mut room[start..end]) {
+        match take_table(&mut *source, lengths[i], &mut room[start..end]) {
             Taken::Whole => {
                 i += 1;
             }
             Taken::Wrong => {
                 return Taken::Wrong;
             }
-            Taken::Failed => {
-                return Taken::Failed;
+            Taken::Failed(e) => {
+                return Taken::Failed(e);
             }
         }
     }
-    at_end(fd)
+    at_end(source)
 }

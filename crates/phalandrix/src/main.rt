@@ -10,12 +10,15 @@ ghost use Rattle.schedule.specs.Limits as Limits;
 use asking::{Asked, Instant, Lengths, Passed, Question, WORD_ROOM};
 use format::Refusal;
 use inputs::{Input, PIECE, Reading, Taken, after_read, read_input, take_tables};
-use libc::{STDERR_FILENO, STDIN_FILENO, STDOUT_FILENO};
 use marginlines::MARGIN_BYTES;
 use marginprints::put_margin_to;
 use printing::{SLOT, SLOTS, put_answer_to, put_batch};
 use printouts::{Output, put_fixes_to, put_left_to};
 use salvage::LIST_BYTES;
+use std::env::{Env, FillError};
+use std::fs::File;
+use std::io;
+use std::io::{Read, Write};
 use table::Table;
 
 // What is left of a text is no longer than a table may be.
@@ -32,40 +35,89 @@ enum Line {
     Failed,
 }
 
-fn print_usage() {
-    io::write_all(
-        STDERR_FILENO,
+// The room for an argument, and for a text to print, but for those of salvage and of margins: a path's length, which none of them passes.
+const ROOM: usize = 4096;
+
+// The room for an error's text as the system words it.
+const ERROR_ROOM: usize = 128;
+
+// The numbers of two of the system's errors: a name that is too long, and one whose bytes are no text.
+const NAME_TOO_LONG: i32 = 36;
+
+const NO_TEXT: i32 = 84;
+
+// All arguments end to end, each ended by a zero byte.
+const COMMAND_LINE: &str = "/proc/self/cmdline";
+
+// What standard error does not take is lost.
+fn say(rt: HostRuntime, bytes: &[u8]) {
+    let _ = rt.stderr().write_all(bytes);
+}
+
+fn print_usage(rt: HostRuntime) {
+    say(
+        rt,
         b"usage: phalandrix < TABLE          the report\n       phalandrix row T < TABLE    the row at instant T\n       phalandrix batch L1 .. Ln < TABLES    the reports of tables end to end, of these lengths\n       phalandrix rewrite < TABLE  the table, read and written again\n       phalandrix plain < TABLE    the report, by the plain engine\n       phalandrix plain row T < TABLE    the row, by the plain engine\n       phalandrix salvage < TEXT   the text mended\n       phalandrix fixes < TEXT     what was mended\n       phalandrix margin FILE < TABLE    the margins against the limits in FILE\n",
     );
+}
+
+// An error's text at the start of a room, and how long it is.
+fn put_error(error: io::Error, room: &mut [u8]) -> usize
+    ensures { result ≤ length room.new }
+{
+    let size = room.len();
+    let mut left: &mut [u8] = &mut *room;
+    let _ = write!(left, "{error}");
+    size.saturating_sub(left.len())
+}
+
+// The system's word for an error, without the number that the library puts behind it.
+fn worded(text: &str) -> &str {
+    match text.rsplit_once(" (os error ") {
+        Some((word, _)) => word,
+        None => text,
+    }
+}
+
+// A line on standard error: what failed, and why.
+fn fail(rt: HostRuntime, what: &[u8], error: io::Error) {
+    let mut room = [0u8; ERROR_ROOM];
+    let n = put_error(error, &mut room);
+    say(rt, what);
+    say(rt, b": ");
+    if let Ok(text) = str::from_utf8(&room[..n]) {
+        say(rt, worded(text).as_bytes());
+    }
+    say(rt, b"\n");
 }
 
 // Room for a limit text and one byte more: what is kept of a longer one is enough to refuse it.
 const LIMITS_ROOM: usize = Table::LIMIT_BYTES_TO as usize + 1;
 
 // A short write is carried on; one that fails is told.
-fn print(bytes: &[u8]) {
-    if !io::write_all(STDOUT_FILENO, bytes) {
-        os::fail(b"standard output");
+fn print(rt: HostRuntime, bytes: &[u8]) {
+    if let Err(e) = rt.stdout().write_all(bytes) {
+        fail(rt, b"standard output", e);
     }
 }
 
-fn read_piece(fd: i32, p: Passed) -> Line {
+fn read_piece(file: &mut File, p: Passed) -> Line {
     let mut piece = [0u8; PIECE];
-    let got = libc::read(fd, &mut piece);
+    let got = file.read(&mut piece);
     let reading = after_read(got, &piece);
     match reading {
         Reading::More(n) => Line::More(asking::passed_by(p, &piece[..n])),
         Reading::Ended => Line::Ended,
-        Reading::Failed => Line::Failed,
+        Reading::Failed(_) => Line::Failed,
     }
 }
 
 // The instant that argument i spells, from the whole command line.
-fn instant_from(fd: i32, i: usize) -> Instant {
+fn instant_from(file: &mut File, i: usize) -> Instant {
     let mut p = Passed::Before(i);
     let mut turns = TURNS;
     while turns > 0 {
-        match read_piece(fd, p) {
+        match read_piece(&mut *file, p) {
             Line::More(q) => {
                 p = q;
                 turns -= 1;
@@ -81,192 +133,225 @@ fn instant_from(fd: i32, i: usize) -> Instant {
     Instant::Unread
 }
 
-fn long_instant(i: usize) -> Instant {
-    let fd = os::open_read(b"/proc/self/cmdline");
-    if fd < 0 {
-        return Instant::Unread;
+fn long_instant(rt: HostRuntime, i: usize) -> Instant {
+    match File::open(&rt, COMMAND_LINE) {
+        Ok(opened) => {
+            let mut file = opened;
+            instant_from(&mut file, i)
+        }
+        Err(_) => Instant::Unread,
     }
-    let instant = instant_from(fd, i);
-    libc::close(fd);
-    instant
 }
 
-// An argument that fits a room is copied there; the kit has no call for the rest of a longer one.
-fn instant_asked(i: usize) -> Instant {
-    let mut room = io::buffer();
-    let n = os::arg(i, &mut room);
-    if os::errno() == libc::ENAMETOOLONG {
-        return long_instant(i);
+// An argument that fits a room is copied there; a longer one is read in pieces. One that is missing spells what an empty one does.
+fn instant_asked(rt: HostRuntime, i: usize) -> Instant {
+    let mut room = [0u8; ROOM];
+    match rt.arg(i, &mut room) {
+        Ok(n) => asking::instant_of(&room[..n]),
+        Err(FillError::TooLong) => long_instant(rt, i),
+        Err(FillError::NotPresent) => asking::instant_of(b""),
     }
-    asking::instant_of(&room[..n])
+}
+
+// The length of a word that is put into a room: 0 where it is missing or longer than the room.
+fn word_asked(rt: HostRuntime, i: usize, room: &mut [u8]) -> usize
+    ensures { result ≤ length room.new }
+{
+    match rt.arg(i, &mut *room) {
+        Ok(n) => n,
+        Err(_) => 0,
+    }
+}
+
+// How many arguments there are, the program's own name among them.
+fn argument_count(rt: HostRuntime) -> usize {
+    let mut byte = [0u8; 1];
+    for i in 0..usize::MAX {
+        if let Err(FillError::NotPresent) = rt.arg(i, &mut byte) {
+            return i;
+        }
+    }
+    usize::MAX
 }
 
 // The lengths that the arguments from 2 on spell.
-fn lengths_asked() -> Lengths {
-    let count = os::arg_count();
+fn lengths_asked(rt: HostRuntime, count: usize) -> Lengths {
     let mut lengths = asking::no_lengths();
     let mut i: usize = 2;
     while i < count {
-        lengths = asking::lengths_on(lengths, instant_asked(i));
+        lengths = asking::lengths_on(lengths, instant_asked(rt, i));
         i += 1;
     }
     lengths
 }
 
-fn question_asked(lengths: Lengths) -> Asked {
+fn question_asked(rt: HostRuntime, count: usize, lengths: Lengths) -> Asked {
     let mut room = [0u8; WORD_ROOM];
     let mut second = [0u8; WORD_ROOM];
-    let n = os::arg(1, &mut room);
-    let instant = instant_asked(2);
-    let m = os::arg(2, &mut second);
-    let later = instant_asked(3);
-    asking::question_of(
-        os::arg_count(),
-        &room,
-        n,
-        instant,
-        &second,
-        m,
-        later,
-        lengths,
-    )
+    let n = word_asked(rt, 1, &mut room);
+    let instant = instant_asked(rt, 2);
+    let m = word_asked(rt, 2, &mut second);
+    let later = instant_asked(rt, 3);
+    asking::question_of(count, &room, n, instant, &second, m, later, lengths)
 }
 
-fn answer(q: Question) {
+fn answer(rt: HostRuntime, q: Question) {
     let mut room = [0u8; SLOT];
-    let mut text = io::buffer();
-    match read_input(STDIN_FILENO, &mut room) {
-        Input::Failed => os::fail(b"standard input"),
+    let mut text = [0u8; ROOM];
+    match read_input(&mut rt.stdin(), &mut room) {
+        Input::Failed(e) => fail(rt, b"standard input", e),
         Input::Bytes(n) => {
             let m = put_answer_to(q, &room, n, &mut text);
-            print(&text[..m]);
+            print(rt, &text[..m]);
         }
     }
 }
 
 // Salvage writes both outputs, and one of them is printed. It is called from two places, so that the compiler leaves it a function of its own:
 // its rooms would else stand in the frame of `main`, under that of a walk.
-fn print_output(o: Output) {
+fn print_output(rt: HostRuntime, o: Output) {
     let mut room = [0u8; SLOT];
     let mut text = [0u8; TEXT_ROOM];
     let mut list = [0u8; LIST_BYTES];
-    match read_input(STDIN_FILENO, &mut room) {
-        Input::Failed => os::fail(b"standard input"),
+    match read_input(&mut rt.stdin(), &mut room) {
+        Input::Failed(e) => fail(rt, b"standard input", e),
         Input::Bytes(n) => match o {
             Output::Text => {
                 let m = put_left_to(&room, n, &mut text, &mut list);
-                print(&text[..m]);
+                print(rt, &text[..m]);
             }
             Output::Fixes => {
                 let m = put_fixes_to(&room, n, &mut text, &mut list);
-                print(&list[..m]);
+                print(rt, &list[..m]);
             }
         },
     }
 }
 
 // Which text a refusal is of does not stand in what document 02 has printed.
-fn tell_text(in_limits: bool) {
+fn tell_text(rt: HostRuntime, in_limits: bool) {
     if in_limits {
-        io::write_all(
-            STDERR_FILENO,
-            b"phalandrix: this refusal is of the limit text\n",
-        );
+        say(rt, b"phalandrix: this refusal is of the limit text\n");
     }
 }
 
 // The margins of the table on standard input.
-fn print_margin(limits: &[u8], m: usize)
+fn print_margin(rt: HostRuntime, limits: &[u8], m: usize)
     requires { ((Limits.limit_bytes).to < length limits.now) × (m ≤ length limits.now) }
 {
     let mut room = [0u8; SLOT];
     let mut text = [0u8; MARGIN_BYTES];
-    match read_input(STDIN_FILENO, &mut room) {
-        Input::Failed => os::fail(b"standard input"),
+    match read_input(&mut rt.stdin(), &mut room) {
+        Input::Failed(e) => fail(rt, b"standard input", e),
         Input::Bytes(n) => {
             let printed = put_margin_to(&room, n, limits, m, &mut text);
-            tell_text(printed.in_limits);
+            tell_text(rt, printed.in_limits);
             let k = printed.length;
-            print(&text[..k]);
+            print(rt, &text[..k]);
         }
     }
 }
 
-// The file with the limits, which argument 2 names, or below 0. One that cannot be opened is told. The room for its name is gone before the
+// A file by a name in bytes. The library opens a file by a text alone.
+fn open_named(rt: HostRuntime, name: &[u8]) -> io::Result<File> {
+    match str::from_utf8(name) {
+        Ok(text) => File::open(&rt, text),
+        Err(_) => Err(io::Error::from_raw_os_error(NO_TEXT)),
+    }
+}
+
+// The file with the limits, which argument 2 names. One that cannot be opened is told. The room for its name is gone before the
 // others are there: all of them would else stand in the frame of `main`, under that of every walk.
-fn limits_opened() -> i32 {
-    let mut name = io::buffer();
-    let n = os::arg(2, &mut name);
-    if os::errno() == libc::ENAMETOOLONG {
-        os::fail(b"the limits");
-        return -1;
+fn limits_opened(rt: HostRuntime) -> Option<File> {
+    let mut name = [0u8; ROOM];
+    let n = match rt.arg(2, &mut name) {
+        Ok(n) => n,
+        Err(FillError::TooLong) => {
+            fail(
+                rt,
+                b"the limits",
+                io::Error::from_raw_os_error(NAME_TOO_LONG),
+            );
+            return None;
+        }
+        Err(FillError::NotPresent) => 0,
+    };
+    match open_named(rt, &name[..n]) {
+        Ok(file) => Some(file),
+        Err(e) => {
+            fail(rt, &name[..n], e);
+            None
+        }
     }
-    let fd = os::open_read(&name[..n]);
-    if fd < 0 {
-        os::fail(&name[..n]);
-    }
-    fd
 }
 
 // Where the limits cannot be read, that is told and nothing is printed.
-fn answer_margin() {
-    let fd = limits_opened();
-    if fd < 0 {
-        return;
+fn answer_margin(rt: HostRuntime) {
+    if let Some(opened) = limits_opened(rt) {
+        let mut file = opened;
+        let mut limits = [0u8; LIMITS_ROOM];
+        match read_input(&mut file, &mut limits) {
+            Input::Failed(e) => fail(rt, b"the limits", e),
+            Input::Bytes(m) => print_margin(rt, &limits, m),
+        }
     }
-    let mut limits = [0u8; LIMITS_ROOM];
-    match read_input(fd, &mut limits) {
-        Input::Failed => os::fail(b"the limits"),
-        Input::Bytes(m) => print_margin(&limits, m),
-    }
-    libc::close(fd);
 }
 
-fn print_refusal(r: Refusal) {
-    let mut text = io::buffer();
+fn print_refusal(rt: HostRuntime, r: Refusal) {
+    let mut text = [0u8; ROOM];
     let n = writing::refusal_length(r);
     writing::put_refusal(&mut text, r);
-    print(&text[..n]);
+    print(rt, &text[..n]);
 }
 
 // Nothing is printed before it is known that the input ends where the lengths say.
-fn answer_tables(lengths: &[usize])
+fn answer_tables(rt: HostRuntime, lengths: &[usize])
     requires { length lengths.now ≤ (Limits.tables).to }
 {
     let mut room = [0u8; SLOTS];
-    let mut text = io::buffer();
-    match take_tables(STDIN_FILENO, lengths, &mut room) {
+    let mut text = [0u8; ROOM];
+    match take_tables(&mut rt.stdin(), lengths, &mut room) {
         Taken::Whole => {
             let n = put_batch(lengths, &room, &mut text);
-            print(&text[..n]);
+            print(rt, &text[..n]);
         }
-        Taken::Wrong => print_refusal(Refusal::WrongLengths),
-        Taken::Failed => os::fail(b"standard input"),
+        Taken::Wrong => print_refusal(rt, Refusal::WrongLengths),
+        Taken::Failed(e) => fail(rt, b"standard input", e),
     }
 }
 
 // No tables at all, and more than the limit, are refused before the input is read.
-fn answer_batch(lengths: Lengths) {
+fn answer_batch(rt: HostRuntime, lengths: Lengths) {
     let count = lengths.count;
     let list = lengths.list;
     if count < Table::TABLES_FROM as usize {
-        return print_refusal(Refusal::WrongLengths);
+        return print_refusal(rt, Refusal::WrongLengths);
     }
     if Table::TABLES < count {
-        return print_refusal(Refusal::WrongLengths);
+        return print_refusal(rt, Refusal::WrongLengths);
     }
-    answer_tables(&list[..count])
+    answer_tables(rt, &list[..count])
 }
 
-fn main() {
-    let lengths = lengths_asked();
-    match question_asked(lengths) {
-        Asked::Answer(q) => answer(q),
-        Asked::Batch => answer_batch(lengths),
-        Asked::Salvage => print_output(Output::Text),
-        Asked::Fixes => print_output(Output::Fixes),
-        Asked::Margin => answer_margin(),
-        Asked::Usage => print_usage(),
-        Asked::Unread => os::fail(b"/proc/self/cmdline"),
+// Why a long argument could not be read: the file is asked for once more. Where it opens this time, it had no end of that argument.
+fn tell_unread(rt: HostRuntime) {
+    let why = match File::open(&rt, COMMAND_LINE) {
+        Ok(_) => io::Error::from(io::ErrorKind::UnexpectedEof),
+        Err(e) => e,
+    };
+    fail(rt, COMMAND_LINE.as_bytes(), why);
+}
+
+fn main(rt: HostRuntime) {
+    let count = argument_count(rt);
+    let lengths = lengths_asked(rt, count);
+    match question_asked(rt, count, lengths) {
+        Asked::Answer(q) => answer(rt, q),
+        Asked::Batch => answer_batch(rt, lengths),
+        Asked::Salvage => print_output(rt, Output::Text),
+        Asked::Fixes => print_output(rt, Output::Fixes),
+        Asked::Margin => answer_margin(rt),
+        Asked::Usage => print_usage(rt),
+        Asked::Unread => tell_unread(rt),
     }
 }

@@ -1,8 +1,8 @@
 -- Ranks: one server job more, one place more.
 use mathlib.Core.Path.{◌≡◌, refl, sym, ap, ◌∙◌}
-use mathlib.Core.Bool.{Bool, true, false}
+use mathlib.Core.Bool.{Bool, true, false, cond}
 use mathlib.Core.List.{List}
-use Prim.Native.Nat.{ℕ, suc, ◌+◌, ◌-◌, ◌≤◌, ◌<◌}
+use Prim.Native.Nat.{ℕ, zero, suc, ◌+◌, ◌-◌, ◌≤◌, ◌<◌, min}
 use native.Mathlib.Numerals.{add-one}
 use native.Mathlib.Omega.{arith}
 use lib.Dec.{ltb, eqb}
@@ -14,7 +14,7 @@ use Rattle.ledger.specs.declared.Ledger.{Ledger}
 use Rattle.ledger.specs.declared.Found.{Found}
 use Rattle.ledger.specs.Entries.{slot_at, instant_after}
 use Rattle.ledger.specs.Loops.{changed}
-use Rattle.ledger.specs.Ranks.{ready_to, is_before, before_by, last_ready, rank_by, rank, ran_by, run_server, run_to, found_by, found_in, found_to, run}
+use Rattle.ledger.specs.Ranks.{ready_to, is_before, before_by, last_ready, ready_count, before_at, rank_by, rank, ran_by, run_server, run_to, found_by, found_in, found_to, found, run}
 
 -- of the server jobs after `from`, k is the last that was looked at
 abbrev pub next : (from k : ℕ) → from ≤ k → k + 1 - from ≡ suc (k - from)

@@ -1,6 +1,11 @@
 -- `found_in` meets its contract. The loop keeps: the last of the server jobs up to k that has the rank.
+use mathlib.Core.Path.{◌≡◌, refl, sym, ap, ◌∙◌}
+use Prim.Native.Nat.{◌-◌, ◌≤◌}
 use native.Mathlib.Omega.{arith}
-use Rattle.plainranks.proofs.RankLaws.{found_start, found_yes, found_no}
+use lib.ListN.{get_or}
+use Rattle.ledger.specs.Ranks.{found_by}
+use Rattle.plainranks.proofs.RankLaws.{found_start, found_yes, found_no, found_end}
+use borrow.Author.Rules.{rules}
 use Rattle.plainranks.proofs.row.found_in.Goals as goal
 
 pub loop-k-init : goal.loop-k-init
@@ -22,3 +27,7 @@ loop-k-preserved c =
       omega (arith, c.loop-k.invariant.0, c.loop-k-test.true),
       found_no c.args.offsets.now c.args.period.now c.args.level.now c.args.complete.now c.args.released.now c.args.n c.args.i c.args.r c.loop-k.k c.loop-k.invariant.0 c.rank.ensures c.if-rank-r.false c.loop-k.invariant.2,
     )
+
+pub returns : goal.returns
+returns c =
+    found_end c.args.offsets.now c.args.period.now c.args.level.now c.args.complete.now c.args.released.now c.args.n c.args.i c.args.r c.ready_to-to.result c.loop-k.k c.ready_to-to.ensures c.loop-k.invariant.1 c.loop-k-test.false c.loop-k.invariant.0 c.loop-k.invariant.2

@@ -1,7 +1,10 @@
-use mathlib.Core.Path.{◌≡◌}
+use mathlib.Core.Path.{◌≡◌, refl, sym, ap, ◌∙◌}
 use Prim.Native.Nat.{◌-◌, ◌≤◌}
+use native.Mathlib.Omega.{arith}
 use lib.ListN.{get_or}
 use Rattle.ledger.specs.Ranks.{found_by}
+use Rattle.plainranks.proofs.RankLaws.{found_start, found_yes, found_no, found_end}
+use borrow.Author.Rules.{rules}
 use Rattle.plainranks.proofs.row.found_in.Given as goal
 
 abbrev pub invariant-loop-k : goal.invariant-loop-k

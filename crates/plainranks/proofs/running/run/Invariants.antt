@@ -1,6 +1,8 @@
-use mathlib.Core.Path.{◌≡◌}
+use mathlib.Core.Path.{◌≡◌, refl, sym, ap, ◌∙◌}
 use Prim.Native.Nat.{◌-◌, ◌≤◌}
-use Rattle.plainranks.proofs.RankLaws.{ran_at}
+use native.Mathlib.Omega.{arith}
+use Rattle.plainranks.proofs.RankLaws.{ran_at, ran_start, ran_more, ran_all}
+use borrow.Author.Rules.{rules}
 use Rattle.plainranks.proofs.running.run.Given as goal
 
 abbrev pub invariant-loop-i : goal.invariant-loop-i

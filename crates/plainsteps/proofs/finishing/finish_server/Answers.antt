@@ -1,6 +1,10 @@
 -- `finish_server` meets its contract. The loop keeps: `done` is what the pending server jobs up to k come to.
+use mathlib.Core.Path.{◌≡◌, refl, sym, ap, ◌∙◌}
+use Prim.Native.Nat.{◌-◌, ◌≤◌}
 use native.Mathlib.Omega.{arith}
+use Rattle.ledger.specs.Finishing.{done_by}
 use Rattle.plainsteps.proofs.StepLaws.{done_start, done_full, done_same}
+use borrow.Author.Rules.{rules}
 use Rattle.plainsteps.proofs.finishing.finish_server.Goals as goal
 
 pub loop-k-init : goal.loop-k-init
@@ -23,3 +27,8 @@ loop-k-preserved c =
       done_same c.args.used.now c.args.link.now c.args.i c.args.from c.args.budget c.args.offset c.args.period c.args.t c.loop-k.k c.loop-k.invariant.0 c.slot-s.ensures.0 c.loop-k.invariant.2
           c.if-budget-used.false,
     )
+
+pub returns : goal.returns
+returns c =
+    let e : c.loop-k.k - c.args.from.complete ≡ c.args.released - c.args.from.complete = omega (arith, c.loop-k.invariant.0, c.loop-k.invariant.1, c.loop-k-test.false) in
+    rw e at c.loop-k.invariant.2

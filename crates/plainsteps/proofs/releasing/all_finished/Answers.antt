@@ -1,13 +1,23 @@
 -- `all_finished` meets its contract. The loop keeps: the answer for the whole mask is that for what is left of it, and `left` counts its ones;
 -- each turn takes the lowest off.
-use mathlib.Core.Path.{sym, ap, ◌∙◌}
-use Prim.Native.Nat.{ℕ}
+use mathlib.Core.Path.{◌≡◌, refl, sym, ap, ◌∙◌}
+use Prim.Native.Nat.{ℕ, ◌^◌, ◌<◌}
 use native.Mathlib.Omega.{arith}
 use borrow.Author.Rules.{rules}
+use Rattle.numbers.specs.Masks.{width, ones}
 use Rattle.numbers.proofs.Counts.{ones_without, some_set, none_set}
 use Rattle.ledger.specs.Releasing.{all_finished}
 use Rattle.plainsteps.proofs.StepLaws.{finished_none, finished_no, finished_yes, low_place, low_set}
 use Rattle.plainsteps.proofs.releasing.all_finished.Goals as goal
+
+pub loop-left-init : goal.loop-left-init
+loop-left-init c = (search rules, c.ones-left.ensures, refl)
+
+pub offset_bounds-finished-p : goal.offset_bounds-finished-p
+offset_bounds-finished-p c =
+    let some = some_set c.loop-left.m (omega (arith, c.loop-left-test.true, c.loop-left.invariant.1)) in
+    let inside = low_place c.loop-left.m c.lowest-p.result some c.loop-left.invariant.0 c.lowest-p.ensures in
+    search rules
 
 pub bounds-finished-p : goal.bounds-finished-p
 bounds-finished-p c =

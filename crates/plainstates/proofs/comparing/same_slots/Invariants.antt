@@ -1,0 +1,19 @@
+use mathlib.Core.Path.{◌≡◌, refl, sym, ap, ◌∙◌}
+use mathlib.Core.Bool.{Bool, true}
+use Prim.Native.Nat.{ℕ, ◌-◌, ◌≤◌}
+use native.Mathlib.Omega.{arith}
+use lib.ListN.{get_or}
+use borrow.Author.Tests.{not-true, not-false}
+use Rattle.window.specs.Loops.{all_below}
+use Rattle.window.proofs.LoopLaws.{all_yes}
+use Rattle.ledger.specs.Forming.{same_pending}
+use Rattle.plainstates.proofs.StateLaws.{one_differs, each_same}
+use borrow.Author.Rules.{rules}
+use Rattle.plainstates.proofs.comparing.same_slots.Given as goal
+
+abbrev pub invariant-loop-i : goal.invariant-loop-i
+invariant-loop-i l =
+    (l.i ≤ l.n) × (true ≡ all_below (λ (j : ℕ). same_pending l.x l.y j (get_or l.pending j 0)) l.i)
+
+abbrev pub decreases-loop-i : goal.decreases-loop-i
+decreases-loop-i l = l.n - l.i

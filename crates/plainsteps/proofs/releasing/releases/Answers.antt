@@ -1,0 +1,6 @@
+-- `releases` meets its contract.
+use borrow.Author.Rules.{rules}
+use Rattle.plainsteps.proofs.releasing.releases.Goals as goal
+
+pub returns : goal.returns
+returns c = rw c.instant_after.ensures

@@ -1,0 +1,12 @@
+-- `put_settled` meets its contract: the text does not fit, and nothing is written; or it is written.
+use Rattle.sheet.proofs.CallLaws.{short_call, written_call}
+use borrow.Author.Rules.{rules}
+use Rattle.sheet.proofs.reporting.put_settled.Goals as goal
+
+pub returns-then-buffer-n : goal.returns-then-buffer-n
+returns-then-buffer-n c = short_call _ _ (rw c.report_length-n.ensures.size at c.if-buffer-n.true)
+
+pub returns : goal.returns
+returns c =
+    written_call _ _ _ _ _ c.report_length-n.ensures.size
+    (rw c.report_length-n.ensures.size at c.if-buffer-n.false) c.put_report.ensures
