@@ -1,5 +1,6 @@
--- Finishing: budgets and a window moved down by one slot.
-use mathlib.Core.Path.{◌≡◌}
+-- Finishing: budgets and a window moved down by one slot; the test of the oldest server job.
+use mathlib.Core.Path.{◌≡◌, sym, ◌∙◌}
+use mathlib.Core.Bool.{Bool, true, false, ◌&&◌}
 use mathlib.Core.List.{List}
 use mathlib.Core.Logic.{◌⊎◌}
 use Prim.Native.Nat.{ℕ, suc, ◌+◌, ◌≤◌, ◌<◌}
@@ -11,6 +12,15 @@ use Rattle.table.specs.declared.Server.{Server}
 use Rattle.window.specs.Entries.{last_key, further, slot_of}
 use Rattle.window.specs.Loops.{replaced}
 use Rattle.window.specs.Finishing.{later_key}
+
+-- three tests in a row: the last one counts where the others pass
+pub last_decides : (a b x : Bool) {f : Bool} → f ≡ (a && b) → f ≡ true → x ≡ (a && (b && x))
+last_decides true b x e h = rw (sym e ∙ h)
+last_decides false b x e h = let z : false ≡ true = sym e ∙ h in cc
+
+pub others_decide : (a b x : Bool) {f : Bool} → f ≡ (a && b) → f ≡ false → f ≡ (a && (b && x))
+others_decide true b x e h = rw (sym e ∙ h) h
+others_decide false b x e h = h
 
 -- the key of the next server job, where there is one
 pub first_later : (first : List ℕ) (i n key step k : ℕ) → ((1 < n) × (k ≡ further key step)) ⊎ ((n ≤ 1) × (k ≡ last_key))

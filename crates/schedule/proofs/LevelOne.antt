@@ -6,7 +6,7 @@ use mathlib.Core.List.{List}
 use Prim.Native.Nat.{ℕ, zero, suc, ◌+◌, ◌-◌, ◌≤◌, ◌<◌}
 use native.Mathlib.Omega.{arith}
 use lib.Dec.{T}
-use Rattle.schedule.specs.Lists.{one?, count, numbers, up_to}
+use Rattle.schedule.specs.Lists.{count, numbers}
 use Rattle.schedule.specs.Servers.{Server, srv}
 use Rattle.schedule.specs.Links.{finished_by}
 use Rattle.schedule.specs.Overlap.{job_runs, starts, jobs_running, OverlapLimited}

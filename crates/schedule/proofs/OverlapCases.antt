@@ -1,6 +1,6 @@
 -- The worked cases of R-8 hold, by computation.
 use mathlib.Core.Path.{◌≡◌, refl}
-use mathlib.Core.List.{List, map}
+use mathlib.Core.List.{map}
 use Prim.Native.Nat.{ℕ, ◌-◌}
 use lib.ListN.{length}
 use Rattle.schedule.specs.Lists.{keep, tab, up_to}

@@ -1,8 +1,6 @@
 -- `limits_ended` meets its contract.
 use mathlib.Core.Path.{sym, ◌∙◌, ap}
-use mathlib.Core.List.{List}
 use lib.ListN.{take}
-use borrow.Author.Rules.{rules}
 use Rattle.format.specs.Reading.{◌and_then◌, ended}
 use Rattle.reading.specs.Outcomes.{end_of}
 use Rattle.reading.specs.declared.tables.End.{End}

@@ -1,17 +1,13 @@
 -- `limits_from` meets its contract: at each turn the limits after g go behind those that were read.
 use mathlib.Core.Path.{◌≡◌, refl, sym, ◌∙◌, ap}
-use mathlib.Core.List.{List}
-use Prim.Native.Nat.{ℕ, ◌+◌, ◌-◌, ◌≤◌}
+use Prim.Native.Nat.{ℕ, ◌-◌}
 use native.Mathlib.Omega.{arith}
-use lib.ListN.{length, take, set, length-set}
-use borrow.Author.Rules.{rules}
-use Rattle.schedule.specs.Limits as Limits
+use lib.ListN.{take, length-set}
 use Rattle.format.specs.Keys as Keys
 use Rattle.format.specs.Reading.{done}
 use Rattle.rules.proofs.Outcomes.{told, number_line_holds}
-use Rattle.margins.specs.Margins.{limits_from}
-use Rattle.lines.specs.Numbered.{map_outcome, place_of, line_read_of}
-use Rattle.agelimits.specs.Read.{start, behind}
+use Rattle.lines.specs.Numbered.{place_of, line_read_of}
+use Rattle.agelimits.specs.Read.{start}
 use Rattle.agelimits.proofs.Runs.{limits_all, limits_one, limits_stop, limits_none}
 use Rattle.agelimits.proofs.limits_from.Goals as goal
 

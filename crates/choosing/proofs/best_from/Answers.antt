@@ -20,7 +20,7 @@ loop-i-preserved c =
     elim c.if-heads-i.branch [ then-heads-i w ↦ rw (lt-ltb _ _ w.if-heads-i.true) w.k-is | else-heads-i w ↦ rw (le-ltb _ _ w.if-heads-i.false) w.k-is ] in (
       search rules,
       elim c.if-k-best.branch [
-        then-k-best w ↦ w.best-is ∙ best_more a.heads.now a.from i c.loop-i.invariant.1 head w.if-k-best.true
+        | then-k-best w ↦ w.best-is ∙ best_more a.heads.now a.from i c.loop-i.invariant.1 head w.if-k-best.true
         | else-k-best w ↦ w.best-is ∙ best_same a.heads.now a.from i c.loop-i.invariant.1 head w.if-k-best.false
       ],
     )

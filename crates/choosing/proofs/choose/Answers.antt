@@ -20,14 +20,14 @@ loop-m-preserved c =
     let a = c.args in (
       search rules,
       elim c.if-d-ready_of.branch [
-        then-d-ready_of w ↦
-          rw (w.heads-is, w.taken-is)
-          (picked_next a.first.now a.count.now a.level.now a.step.now a.n a.run.now a.at.now c.loop-m.m c.best_from-key.result
-          c.ready_of.result c.loop-m.invariant.1 c.best_from-key.ensures c.if-key.false c.ready_of.ensures w.if-d-ready_of.true w.further.ensures)
+        | then-d-ready_of w ↦
+            rw (w.heads-is, w.taken-is)
+            (picked_next a.first.now a.count.now a.level.now a.step.now a.n a.run.now a.at.now c.loop-m.m c.best_from-key.result
+            c.ready_of.result c.loop-m.invariant.1 c.best_from-key.ensures c.if-key.false c.ready_of.ensures w.if-d-ready_of.true w.further.ensures)
         | else-d-ready_of w ↦
-          rw (w.heads-is, w.taken-is)
-          (picked_last a.first.now a.count.now a.level.now a.step.now a.n a.run.now a.at.now c.loop-m.m c.best_from-key.result
-          c.ready_of.result c.loop-m.invariant.1 c.best_from-key.ensures c.if-key.false c.ready_of.ensures w.if-d-ready_of.false)
+            rw (w.heads-is, w.taken-is)
+            (picked_last a.first.now a.count.now a.level.now a.step.now a.n a.run.now a.at.now c.loop-m.m c.best_from-key.result
+            c.ready_of.result c.loop-m.invariant.1 c.best_from-key.ensures c.if-key.false c.ready_of.ensures w.if-d-ready_of.false)
       ],
     )
 

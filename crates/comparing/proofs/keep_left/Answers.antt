@@ -11,7 +11,7 @@ unfolding replaced
 loop-k-init c = (search rules, refl)
 
 pub loop-k-preserved : goal.loop-k-preserved
-loop-k-preserved c =  (search rules, replaced_more _ _ c.loop-k.k c.loop-k.invariant.1 refl)
+loop-k-preserved c = (search rules, replaced_more _ _ c.loop-k.k c.loop-k.invariant.1 refl)
 
 pub returns : goal.returns
 returns c = rw (le_antisymm c.loop-k.invariant.0 c.loop-k-test.false) at c.loop-k.invariant.1

@@ -16,10 +16,10 @@ unfolding all_below
 loop-d-init c = (search rules, refl)
 
 pub returns-then-not-same_pending : goal.returns-then-not-same_pending
-returns-then-not-same_pending c =  one_differs ((let it : ℕ → Bool = λ d. let a = c.args in same_pending (slot_of a.s d) (slot_of a.r d) in it)) _ c.smaller-most.ensures c.loop-d.d (omega arith) (sym c.same_pending.ensures ∙ c.if-not-same_pending.true)
+returns-then-not-same_pending c = one_differs ((let it : ℕ → Bool = λ d. let a = c.args in same_pending (slot_of a.s d) (slot_of a.r d) in it)) _ c.smaller-most.ensures c.loop-d.d (omega arith) (sym c.same_pending.ensures ∙ c.if-not-same_pending.true)
 
 pub loop-d-preserved : goal.loop-d-preserved
-loop-d-preserved c =  (search rules, c.loop-d.invariant.1 ∙ all_yes ((let it : ℕ → Bool = λ d. let a = c.args in same_pending (slot_of a.s d) (slot_of a.r d) in it)) c.loop-d.d (sym c.same_pending.ensures ∙ c.if-not-same_pending.false))
+loop-d-preserved c = (search rules, c.loop-d.invariant.1 ∙ all_yes ((let it : ℕ → Bool = λ d. let a = c.args in same_pending (slot_of a.s d) (slot_of a.r d) in it)) c.loop-d.d (sym c.same_pending.ensures ∙ c.if-not-same_pending.false))
 
 pub returns : goal.returns
-returns c =  each_same ((let it : ℕ → Bool = λ d. let a = c.args in same_pending (slot_of a.s d) (slot_of a.r d) in it)) _ c.smaller-most.ensures _ c.loop-d.invariant.1 c.loop-d.invariant.0 c.loop-d-test.false
+returns c = each_same ((let it : ℕ → Bool = λ d. let a = c.args in same_pending (slot_of a.s d) (slot_of a.r d) in it)) _ c.smaller-most.ensures _ c.loop-d.invariant.1 c.loop-d.invariant.0 c.loop-d-test.false

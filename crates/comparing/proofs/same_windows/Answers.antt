@@ -17,10 +17,10 @@ unfolding all_below
 loop-i-init c = (search rules, refl)
 
 pub returns-then-not-same_window : goal.returns-then-not-same_window
-returns-then-not-same_window c =  one_differs ((let it : ℕ → Bool = λ i. let a = c.args in same_window (get_or a.a i no_server) (get_or a.b i no_server) (get_or a.count i 0) in it)) _ refl c.loop-i.i (omega arith) (sym c.same_window.ensures ∙ c.if-not-same_window.true)
+returns-then-not-same_window c = one_differs ((let it : ℕ → Bool = λ i. let a = c.args in same_window (get_or a.a i no_server) (get_or a.b i no_server) (get_or a.count i 0) in it)) _ refl c.loop-i.i (omega arith) (sym c.same_window.ensures ∙ c.if-not-same_window.true)
 
 pub loop-i-preserved : goal.loop-i-preserved
-loop-i-preserved c =  (search rules, c.loop-i.invariant.1 ∙ all_yes ((let it : ℕ → Bool = λ i. let a = c.args in same_window (get_or a.a i no_server) (get_or a.b i no_server) (get_or a.count i 0) in it)) c.loop-i.i (sym c.same_window.ensures ∙ c.if-not-same_window.false))
+loop-i-preserved c = (search rules, c.loop-i.invariant.1 ∙ all_yes ((let it : ℕ → Bool = λ i. let a = c.args in same_window (get_or a.a i no_server) (get_or a.b i no_server) (get_or a.count i 0) in it)) c.loop-i.i (sym c.same_window.ensures ∙ c.if-not-same_window.false))
 
 pub returns : goal.returns
-returns c =  each_same ((let it : ℕ → Bool = λ i. let a = c.args in same_window (get_or a.a i no_server) (get_or a.b i no_server) (get_or a.count i 0) in it)) _ refl _ c.loop-i.invariant.1 c.loop-i.invariant.0 c.loop-i-test.false
+returns c = each_same ((let it : ℕ → Bool = λ i. let a = c.args in same_window (get_or a.a i no_server) (get_or a.b i no_server) (get_or a.count i 0) in it)) _ refl _ c.loop-i.invariant.1 c.loop-i.invariant.0 c.loop-i-test.false

@@ -13,7 +13,7 @@ returns c =
       search rules,
       (
         first_later a.first.now a.i _ _ _ _ (elim c.if-n-gt1.branch [
-          then-n-gt1 w ↦ inl (w.if-n-gt1.true, w.first-is ∙ w.further.ensures)
+          | then-n-gt1 w ↦ inl (w.if-n-gt1.true, w.first-is ∙ w.further.ensures)
           | else-n-gt1 w ↦ inr (w.if-n-gt1.false, w.first-is)
         ]),
         search rules,

@@ -13,7 +13,7 @@ unfolding replaced
 loop-d-init c = (search rules, refl)
 
 pub loop-d-preserved : goal.loop-d-preserved
-loop-d-preserved c =  (search rules, shifted_more c.args.s c.loop-d.d c.loop-d.invariant.1)
+loop-d-preserved c = (search rules, shifted_more c.args.s c.loop-d.d c.loop-d.invariant.1)
 
 pub returns : goal.returns
 returns c =

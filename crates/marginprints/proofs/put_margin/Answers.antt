@@ -1,6 +1,5 @@
 -- `put_margin` meets its contract, by what the call answered.
 use Rattle.marginprints.proofs.Prints.{text_printed, refusal_printed}
-use borrow.Author.Rules.{rules}
 use Rattle.marginprints.proofs.put_margin.Goals as goal
 
 pub returns-in-Text : goal.returns-in-Text

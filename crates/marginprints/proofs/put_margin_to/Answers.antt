@@ -3,7 +3,6 @@ use mathlib.Core.Path.{sym}
 use lib.Seq.{length-take-le}
 use Rattle.printing.proofs.Printed.{written_within}
 use Rattle.marginprints.proofs.Prints.{held_margin}
-use borrow.Author.Rules.{rules}
 use Rattle.marginprints.proofs.put_margin_to.Goals as goal
 
 pub slice_bounds-put_margin-end : goal.slice_bounds-put_margin-end

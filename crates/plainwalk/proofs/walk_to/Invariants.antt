@@ -1,16 +1,7 @@
-use mathlib.Core.Path.{◌≡◌, refl, sym, ◌∙◌}
-use mathlib.Core.List.{List}
-use mathlib.Core.Logic.{⊎_elim}
-use Prim.Native.Nat.{ℕ, suc, ◌+◌, ◌*◌, ◌-◌, ◌≤◌}
-use native.Mathlib.Omega.{arith}
-use borrow.Author.Rules.{rules}
-use Rattle.window.specs.declared.Plan.{Plan}
-use Rattle.window.specs.Entries.{nodes_of}
-use Rattle.ledger.specs.declared.Formed.{Formed}
-use Rattle.ledger.specs.declared.Walk.{Walk}
-use Rattle.ledger.specs.Walking.{walk_from, walk_of}
-use Rattle.plainwalk.proofs.Steps as Steps
-use Rattle.plainwalk.proofs.Steps.{Remains, Passes, Differs, Ahead}
+use mathlib.Core.Path.{◌≡◌}
+use Prim.Native.Nat.{suc, ◌+◌, ◌*◌, ◌-◌, ◌≤◌}
+use Rattle.ledger.specs.Walking.{walk_of}
+use Rattle.plainwalk.proofs.Steps.{Remains}
 use Rattle.plainwalk.proofs.walk_to.Given as goal
 
 abbrev pub invariant-loop-t : goal.invariant-loop-t

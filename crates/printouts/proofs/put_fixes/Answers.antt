@@ -1,6 +1,5 @@
 -- `put_fixes` meets its contract, by what the call answered.
 use Rattle.printouts.proofs.Outputs.{list_printed, list_refused}
-use borrow.Author.Rules.{rules}
 use Rattle.printouts.proofs.put_fixes.Goals as goal
 
 pub returns-in-Texts : goal.returns-in-Texts

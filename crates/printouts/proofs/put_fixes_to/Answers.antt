@@ -3,7 +3,6 @@ use mathlib.Core.Path.{sym}
 use lib.Seq.{length-take-le}
 use Rattle.printouts.specs.declared.Output.TheVariants.{Fixes}
 use Rattle.printouts.proofs.Outputs.{held_output, written_within}
-use borrow.Author.Rules.{rules}
 use Rattle.printouts.proofs.put_fixes_to.Goals as goal
 
 pub slice_bounds-put_fixes-end : goal.slice_bounds-put_fixes-end

@@ -1,6 +1,5 @@
 -- `put_left` meets its contract, by what the call answered.
 use Rattle.printouts.proofs.Outputs.{text_printed, text_refused}
-use borrow.Author.Rules.{rules}
 use Rattle.printouts.proofs.put_left.Goals as goal
 
 pub returns-in-Texts : goal.returns-in-Texts

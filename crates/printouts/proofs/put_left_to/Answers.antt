@@ -3,7 +3,6 @@ use mathlib.Core.Path.{sym}
 use lib.Seq.{length-take-le}
 use Rattle.printouts.specs.declared.Output.TheVariants.{Text}
 use Rattle.printouts.proofs.Outputs.{held_output, written_within}
-use borrow.Author.Rules.{rules}
 use Rattle.printouts.proofs.put_left_to.Goals as goal
 
 pub slice_bounds-put_left-end : goal.slice_bounds-put_left-end

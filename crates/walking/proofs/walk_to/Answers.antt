@@ -47,14 +47,14 @@ differs c left =
     let l = c.loop-t in
     let s = state_of l.servers l.left l.first l.count l.unfinished l.unlinked l.worst l.next in
     elim c.else-round-gt0.branch [
-      else-round-gt0-via-then-round-gt0+then-same_numbers+else-same_windows w ↦
-        differs_windows a.plan a.hyper a.rounds a.asked left l.t l.boundary l.round c.smaller-n.result s l.kept c.smaller-n.ensures
-        w.if-round-gt0.true w.same_numbers.ensures w.if-same_numbers.true w.same_windows.ensures w.if-same_windows.false
+      | else-round-gt0-via-then-round-gt0+then-same_numbers+else-same_windows w ↦
+          differs_windows a.plan a.hyper a.rounds a.asked left l.t l.boundary l.round c.smaller-n.result s l.kept c.smaller-n.ensures
+          w.if-round-gt0.true w.same_numbers.ensures w.if-same_numbers.true w.same_windows.ensures w.if-same_windows.false
       | else-round-gt0-via-then-round-gt0+else-same_numbers w ↦
-        differs_numbers a.plan a.hyper a.rounds a.asked left l.t l.boundary l.round c.smaller-n.result s l.kept c.smaller-n.ensures
-        w.if-round-gt0.true w.same_numbers.ensures w.if-same_numbers.false
+          differs_numbers a.plan a.hyper a.rounds a.asked left l.t l.boundary l.round c.smaller-n.result s l.kept c.smaller-n.ensures
+          w.if-round-gt0.true w.same_numbers.ensures w.if-same_numbers.false
       | else-round-gt0-via-else-round-gt0 w ↦
-        differs_first a.plan a.hyper a.rounds a.asked left l.t l.boundary l.round c.smaller-n.result s l.kept c.smaller-n.ensures w.if-round-gt0.false
+          differs_first a.plan a.hyper a.rounds a.asked left l.t l.boundary l.round c.smaller-n.result s l.kept c.smaller-n.ensures w.if-round-gt0.false
     ]
 
 -- past the boundary
@@ -72,24 +72,24 @@ module _ (c : Joined-t-boundary) where
       let l = c.loop-t in
       let s = state_of l.servers l.left l.first l.count l.unfinished l.unlinked l.worst l.next in
       elim c.if-t-boundary.branch [
-        then-t-boundary+else-round-gt0+else-round-rounds+else-loop-j-test w ↦
-          let d : Differs a.plan a.hyper a.rounds a.asked left l.t l.boundary l.round c.smaller-n.result s l.kept c.smaller-n.ensures =
-          elim w.else-round-gt0.branch [
-            else-round-gt0-via-then-round-gt0+then-same_numbers+else-same_windows v ↦
-              differs_windows a.plan a.hyper a.rounds a.asked left l.t l.boundary l.round c.smaller-n.result s l.kept c.smaller-n.ensures
-              v.if-round-gt0.true v.same_numbers.ensures v.if-same_numbers.true v.same_windows.ensures v.if-same_windows.false
-            | else-round-gt0-via-then-round-gt0+else-same_numbers v ↦
-              differs_numbers a.plan a.hyper a.rounds a.asked left l.t l.boundary l.round c.smaller-n.result s l.kept c.smaller-n.ensures
-              v.if-round-gt0.true v.same_numbers.ensures v.if-same_numbers.false
-            | else-round-gt0-via-else-round-gt0 v ↦
-              differs_first a.plan a.hyper a.rounds a.asked left l.t l.boundary l.round c.smaller-n.result s l.kept c.smaller-n.ensures v.if-round-gt0.false
-          ] in
-          passes_boundary a.plan a.hyper a.rounds a.asked left l.t l.boundary l.round c.smaller-n.result s l.kept c.smaller-n.ensures
-          w.if-t-boundary.true d w.if-round-rounds.false (w.boundary-is ∙ w.further-boundary.ensures) w.round-is
-          (w.kept-is ∙ keeps_all s l.kept w.loop-j.j w.loop-j.kept w.loop-j.invariant.1 c.smaller-n.result w.loop-j.invariant.0 w.loop-j-test.false _ w.keep_left.ensures)
+        | then-t-boundary+else-round-gt0+else-round-rounds+else-loop-j-test w ↦
+            let d : Differs a.plan a.hyper a.rounds a.asked left l.t l.boundary l.round c.smaller-n.result s l.kept c.smaller-n.ensures =
+            elim w.else-round-gt0.branch [
+              | else-round-gt0-via-then-round-gt0+then-same_numbers+else-same_windows v ↦
+                  differs_windows a.plan a.hyper a.rounds a.asked left l.t l.boundary l.round c.smaller-n.result s l.kept c.smaller-n.ensures
+                  v.if-round-gt0.true v.same_numbers.ensures v.if-same_numbers.true v.same_windows.ensures v.if-same_windows.false
+              | else-round-gt0-via-then-round-gt0+else-same_numbers v ↦
+                  differs_numbers a.plan a.hyper a.rounds a.asked left l.t l.boundary l.round c.smaller-n.result s l.kept c.smaller-n.ensures
+                  v.if-round-gt0.true v.same_numbers.ensures v.if-same_numbers.false
+              | else-round-gt0-via-else-round-gt0 v ↦
+                  differs_first a.plan a.hyper a.rounds a.asked left l.t l.boundary l.round c.smaller-n.result s l.kept c.smaller-n.ensures v.if-round-gt0.false
+            ] in
+            passes_boundary a.plan a.hyper a.rounds a.asked left l.t l.boundary l.round c.smaller-n.result s l.kept c.smaller-n.ensures
+            w.if-t-boundary.true d w.if-round-rounds.false (w.boundary-is ∙ w.further-boundary.ensures) w.round-is
+            (w.kept-is ∙ keeps_all s l.kept w.loop-j.j w.loop-j.kept w.loop-j.invariant.1 c.smaller-n.result w.loop-j.invariant.0 w.loop-j-test.false _ w.keep_left.ensures)
         | else-t-boundary w ↦
-          passes_between a.plan a.hyper a.rounds a.asked left l.t l.boundary l.round c.smaller-n.result s l.kept c.smaller-n.ensures
-          w.if-t-boundary.false w.boundary-is w.round-is w.kept-is
+            passes_between a.plan a.hyper a.rounds a.asked left l.t l.boundary l.round c.smaller-n.result s l.kept c.smaller-n.ensures
+            w.if-t-boundary.false w.boundary-is w.round-is w.kept-is
       ]
 
   ahead : Ahead c.args.origin c.args.hyper c.args.rounds c.loop-t.t c.if-t-boundary.boundary c.if-t-boundary.round
@@ -97,11 +97,11 @@ module _ (c : Joined-t-boundary) where
       let a = c.args in
       let l = c.loop-t in
       elim c.if-t-boundary.branch [
-        then-t-boundary+else-round-gt0+else-round-rounds+else-loop-j-test w ↦
-          ahead_boundary a.origin a.hyper a.rounds l.t l.boundary l.round l.invariant.3 l.invariant.2 c.requires.1 c.requires.2 w.if-t-boundary.true
-          w.if-round-rounds.false (w.boundary-is ∙ w.further-boundary.ensures) w.round-is
+        | then-t-boundary+else-round-gt0+else-round-rounds+else-loop-j-test w ↦
+            ahead_boundary a.origin a.hyper a.rounds l.t l.boundary l.round l.invariant.3 l.invariant.2 c.requires.1 c.requires.2 w.if-t-boundary.true
+            w.if-round-rounds.false (w.boundary-is ∙ w.further-boundary.ensures) w.round-is
         | else-t-boundary w ↦
-          ahead_between a.origin a.hyper a.rounds l.t l.boundary l.round l.invariant.3 l.invariant.2 l.invariant.4 w.if-t-boundary.false w.boundary-is w.round-is
+            ahead_between a.origin a.hyper a.rounds l.t l.boundary l.round l.invariant.3 l.invariant.2 l.invariant.4 w.if-t-boundary.false w.boundary-is w.round-is
       ]
 
 -- past the releases
@@ -121,22 +121,22 @@ module _ (c : Joined-t-release) where
       let b = c.if-t-boundary in
       let s = state_of l.servers l.left l.first l.count l.unfinished l.unlinked l.worst l.next in
       elim c.if-t-release.branch [
-        then-t-release+else-any_full+else-loop-i-test w ↦
-          goes_released a.plan a.hyper a.rounds a.asked left l.t l.boundary l.round c.smaller-n.result s l.kept c.smaller-n.ensures
-          b.boundary b.round b.kept p l.release l.invariant.1 w.if-t-release.true w.any_full.ensures w.if-any_full.false
-          (same_locals l.worst w.servers-is w.left-is w.first-is w.count-is w.unfinished-is w.unlinked-is w.next-is
-          ∙ releases_all a.plan l.t c.smaller-n.result w.loop-i.i s c.smaller-n.ensures w.loop-i.invariant.1 w.loop-i.invariant.0 w.loop-i-test.false)
+        | then-t-release+else-any_full+else-loop-i-test w ↦
+            goes_released a.plan a.hyper a.rounds a.asked left l.t l.boundary l.round c.smaller-n.result s l.kept c.smaller-n.ensures
+            b.boundary b.round b.kept p l.release l.invariant.1 w.if-t-release.true w.any_full.ensures w.if-any_full.false
+            (same_locals l.worst w.servers-is w.left-is w.first-is w.count-is w.unfinished-is w.unlinked-is w.next-is
+            ∙ releases_all a.plan l.t c.smaller-n.result w.loop-i.i s c.smaller-n.ensures w.loop-i.invariant.1 w.loop-i.invariant.0 w.loop-i-test.false)
         | else-t-release w ↦
-          goes_without a.plan a.hyper a.rounds a.asked left l.t l.boundary l.round c.smaller-n.result s l.kept c.smaller-n.ensures
-          b.boundary b.round b.kept p l.release l.invariant.1 w.if-t-release.false
-          (same_locals l.worst w.servers-is w.left-is w.first-is w.count-is w.unfinished-is w.unlinked-is w.next-is)
+            goes_without a.plan a.hyper a.rounds a.asked left l.t l.boundary l.round c.smaller-n.result s l.kept c.smaller-n.ensures
+            b.boundary b.round b.kept p l.release l.invariant.1 w.if-t-release.false
+            (same_locals l.worst w.servers-is w.left-is w.first-is w.count-is w.unfinished-is w.unlinked-is w.next-is)
       ]
 
   next_release : c.if-t-release.release ≡ earliest c.if-t-release.next c.smaller-n.result
   next_release =
       elim c.if-t-release.branch [
-        then-t-release+else-any_full+else-loop-i-test w ↦
-          earliest_of c.smaller-n.result w.loop-i.next c.if-t-release.next w.release-is w.earliest-release-then-t-release.ensures w.next-is
+        | then-t-release+else-any_full+else-loop-i-test w ↦
+            earliest_of c.smaller-n.result w.loop-i.next c.if-t-release.next w.release-is w.earliest-release-then-t-release.ensures w.next-is
         | else-t-release w ↦ earliest_of c.smaller-n.result c.loop-t.next c.if-t-release.next w.release-is c.loop-t.invariant.1 w.next-is
       ]
 
@@ -189,14 +189,14 @@ loop-i-preserved c =
     let u = state_of x.servers x.left x.first x.count x.unfinished x.unlinked l.worst x.next in (
       search rules,
       turn_more (release_one c.args.plan l.t l.unfinished) before x.i x.invariant.1 (elim c.if-releases.branch [
-        then-releases w ↦
-          releases_one c.args.plan l.t l.unfinished u x.i (sym c.releases.ensures ∙ w.if-releases.true) w.all_fewer-due.ensures w.linked_now.ensures
-          w.pushed.ensures w.new_key-key.ensures w.servers-is (w.left-is ∙ w.enter.ensures.0) (w.first-is ∙ w.enter.ensures.1.0)
-          (w.count-is ∙ w.enter.ensures.1.1) (w.unfinished-is ∙ w.count_release.ensures.0) (w.unlinked-is ∙ w.count_release.ensures.1.0)
-          (w.next-is ∙ w.count_release.ensures.1.1)
+        | then-releases w ↦
+            releases_one c.args.plan l.t l.unfinished u x.i (sym c.releases.ensures ∙ w.if-releases.true) w.all_fewer-due.ensures w.linked_now.ensures
+            w.pushed.ensures w.new_key-key.ensures w.servers-is (w.left-is ∙ w.enter.ensures.0) (w.first-is ∙ w.enter.ensures.1.0)
+            (w.count-is ∙ w.enter.ensures.1.1) (w.unfinished-is ∙ w.count_release.ensures.0) (w.unlinked-is ∙ w.count_release.ensures.1.0)
+            (w.next-is ∙ w.count_release.ensures.1.1)
         | else-releases w ↦
-          releases_none c.args.plan l.t l.unfinished u x.i (sym c.releases.ensures ∙ w.if-releases.false) w.servers-is w.left-is w.first-is w.count-is
-          w.unfinished-is w.unlinked-is w.next-is
+            releases_none c.args.plan l.t l.unfinished u x.i (sym c.releases.ensures ∙ w.if-releases.false) w.servers-is w.left-is w.first-is w.count-is
+            w.unfinished-is w.unlinked-is w.next-is
       ]),
     )
 
@@ -271,15 +271,15 @@ loop-r-preserved c =
     let u = state_of x.servers x.left x.first x.count x.unfinished e.unlinked x.worst e.next in (
       search rules,
       turn_more (λ (v : State) (r : ℕ). finish_at c.args.plan now v (place_of (get_or run r 0))) _ x.r x.invariant.1 (elim c.if-is_done.branch [
-        then-is_done w ↦
-          finishes_one c.args.plan now u k c.is_done.ensures w.if-is_done.true w.response_of-response.ensures
-          (w.servers-is ∙ elim w.if-count-i-gt1.branch [
-            then-count-i-gt1 v ↦ windows_shifted u k v.if-count-i-gt1.true v.shifted.ensures v.servers-is
-            | else-count-i-gt1 v ↦ windows_kept u k v.if-count-i-gt1.false v.servers-is
-          ])
-          (w.left-is ∙ w.leave.ensures.0) (w.first-is ∙ w.leave.ensures.1.0) (w.count-is ∙ w.leave.ensures.1.1)
-          (w.unfinished-is ∙ w.count_finish.ensures.0) (w.worst-is ∙ w.count_finish.ensures.1)
+        | then-is_done w ↦
+            finishes_one c.args.plan now u k c.is_done.ensures w.if-is_done.true w.response_of-response.ensures
+            (w.servers-is ∙ elim w.if-count-i-gt1.branch [
+              | then-count-i-gt1 v ↦ windows_shifted u k v.if-count-i-gt1.true v.shifted.ensures v.servers-is
+              | else-count-i-gt1 v ↦ windows_kept u k v.if-count-i-gt1.false v.servers-is
+            ])
+            (w.left-is ∙ w.leave.ensures.0) (w.first-is ∙ w.leave.ensures.1.0) (w.count-is ∙ w.leave.ensures.1.1)
+            (w.unfinished-is ∙ w.count_finish.ensures.0) (w.worst-is ∙ w.count_finish.ensures.1)
         | else-is_done w ↦
-          finishes_none c.args.plan now u k c.is_done.ensures w.if-is_done.false w.servers-is w.left-is w.first-is w.count-is w.unfinished-is w.worst-is
+            finishes_none c.args.plan now u k c.is_done.ensures w.if-is_done.false w.servers-is w.left-is w.first-is w.count-is w.unfinished-is w.worst-is
       ]),
     )

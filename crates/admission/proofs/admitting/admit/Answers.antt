@@ -1,7 +1,6 @@
 -- `admit` meets its contract: what is read is well-formed, so its struct is admitted as the rules admit the table.
 use mathlib.Core.Path.{sym, ◌∙◌, ap}
 use Prim.Native.Nat.{◌-◌}
-use borrow.Author.Rules.{rules}
 use Rattle.rules.proofs.ReadWellFormed.{read_formed}
 use Rattle.format.specs.Reading.{read_of}
 use Rattle.rules.specs.Admission.{admission_of}

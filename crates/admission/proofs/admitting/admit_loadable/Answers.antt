@@ -1,7 +1,6 @@
 -- `admit_loadable` meets its contract.
 use mathlib.Core.Path.{sym, ◌∙◌}
 use Prim.Native.Nat.{◌-◌}
-use borrow.Author.Rules.{rules}
 use Rattle.admission.proofs.admitting.admit_loadable.Goals as goal
 
 pub returns-then-keeps_up : goal.returns-then-keeps_up

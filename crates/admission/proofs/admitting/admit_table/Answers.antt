@@ -1,7 +1,6 @@
 -- `admit_table` meets its contract.
 use mathlib.Core.Path.{sym, ◌∙◌}
 use Prim.Native.Nat.{◌-◌}
-use borrow.Author.Rules.{rules}
 use Rattle.admission.proofs.admitting.admit_table.Goals as goal
 
 pub returns-in-Past : goal.returns-in-Past

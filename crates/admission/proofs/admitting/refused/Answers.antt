@@ -1,6 +1,4 @@
 -- `refused` meets its contract.
-use Prim.Native.Nat.{◌-◌}
-use borrow.Author.Rules.{rules}
 use Rattle.admission.proofs.admitting.refused.Goals as goal
 
 pub returns : goal.returns

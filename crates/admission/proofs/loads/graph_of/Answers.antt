@@ -1,9 +1,8 @@
 -- `graph_of` meets its contract.
-use mathlib.Core.Path.{◌≡◌, sym, ◌∙◌}
+use mathlib.Core.Path.{◌≡◌, sym}
 use Prim.Native.Nat.{◌-◌, ◌≤◌}
 use native.Mathlib.Omega.{arith}
-use lib.ListN.{length, length-map, get_or-eq_default}
-use borrow.Author.Rules.{rules}
+use lib.ListN.{length, get_or-eq_default}
 use Rattle.schedule.specs.Limits as Limits
 use Rattle.table.specs.Fresh.{no_graph}
 use Rattle.admission.proofs.loads.graph_of.Goals as goal

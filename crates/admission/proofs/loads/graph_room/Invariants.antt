@@ -1,16 +1,12 @@
-use mathlib.Core.List.{List}
-use mathlib.Core.Path.{◌≡◌, sym, ◌∙◌, ap}
+use mathlib.Core.Path.{◌≡◌}
 use Prim.Native.Nat.{ℕ, ◌+◌, ◌-◌, ◌*◌}
-use native.Mathlib.Omega.{arith}
 use lib.ListN.{get_or}
-use borrow.Author.Rules.{rules}
 use Rattle.schedule.specs.Lists.{sum, tab}
 use Rattle.schedule.specs.Table as Rules
 use Rattle.table.specs.Fresh.{no_node}
 use Rattle.table.specs.declared.Node.{Node}
 use Rattle.admission.specs.Loads.{room_after, graph_load}
 use Rattle.reading.specs.Memory.{node_of, graph_of}
-use Rattle.admission.proofs.LoadLaws.{over_more, left_more, room_whole, tab_next, tab_done}
 use Rattle.admission.proofs.loads.graph_room.Given as goal
 
 abbrev pub invariant-loop-k : goal.invariant-loop-k

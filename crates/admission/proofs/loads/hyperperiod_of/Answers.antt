@@ -3,7 +3,6 @@ use mathlib.Core.Path.{◌≡◌, sym, ◌∙◌, ap}
 use Prim.Native.Nat.{ℕ, ◌+◌, ◌-◌}
 use native.Mathlib.Omega.{arith}
 use lib.ListN.{get_or}
-use borrow.Author.Rules.{rules}
 use Rattle.schedule.specs.Limits as Limits
 use Rattle.schedule.specs.Lists.{tab}
 use Rattle.schedule.specs.Table as Rules
@@ -11,7 +10,7 @@ use Rattle.numbers.specs.Multiples.{multiple_within}
 use Rattle.table.specs.Fresh.{no_graph}
 use Rattle.table.specs.declared.Graph.{Graph}
 use Rattle.admission.specs.Loads.{hyperperiod_within}
-use Rattle.reading.specs.Memory.{graph_of, table_of}
+use Rattle.reading.specs.Memory.{graph_of}
 use Rattle.admission.proofs.LoadLaws.{tab_next, tab_done, hyperperiod_past, hyperperiod_on, hyperperiod_end}
 use Rattle.admission.proofs.loads.hyperperiod_of.Goals as goal
 

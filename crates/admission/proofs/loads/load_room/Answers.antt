@@ -1,17 +1,16 @@
 -- `load_room` meets its contract: at each turn what is left has room for the graphs from g on, or not.
 use mathlib.Core.List.{List}
 use mathlib.Core.Path.{◌≡◌, sym, ◌∙◌, ap}
-use Prim.Native.Nat.{ℕ, ◌+◌, ◌-◌, ◌*◌, ◌/◌}
+use Prim.Native.Nat.{ℕ, ◌+◌, ◌-◌, ◌/◌}
 use native.Mathlib.Omega.{arith}
 use lib.ListN.{get_or}
-use borrow.Author.Rules.{rules}
 use Rattle.schedule.specs.Lists.{sum, tab}
 use Rattle.schedule.specs.Table as Rules
 use Rattle.numbers.proofs.Products.{product_fits}
 use Rattle.table.specs.Fresh.{no_graph}
 use Rattle.table.specs.declared.Graph.{Graph}
-use Rattle.admission.specs.Loads.{room_after, graph_load, graphs_load}
-use Rattle.reading.specs.Memory.{graph_of, table_of}
+use Rattle.admission.specs.Loads.{room_after, graph_load}
+use Rattle.reading.specs.Memory.{graph_of}
 use Rattle.admission.proofs.LoadLaws.{over_more, left_more, room_whole, tab_next, tab_done}
 use Rattle.admission.proofs.loads.load_room.Goals as goal
 

@@ -9,7 +9,7 @@ pub overflow_mul-need : goal.overflow_mul-need
 overflow_mul-need c = record { fits = product_fits c.ranges.budget.fits c.ranges.times.fits }
 
 pub returns-then-need-room : goal.returns-then-need-room
-returns-then-need-room c =  rw (le-leb (c.args.budget * c.args.times) c.args.room (omega arith))
+returns-then-need-room c = rw (le-leb (c.args.budget * c.args.times) c.args.room (omega arith))
 
 pub returns-else-need-room : goal.returns-else-need-room
-returns-else-need-room c =  rw (lt-leb (c.args.budget * c.args.times) c.args.room (omega arith))
+returns-else-need-room c = rw (lt-leb (c.args.budget * c.args.times) c.args.room (omega arith))

@@ -1,17 +1,10 @@
-use mathlib.Core.Path.{◌≡◌, sym, ◌∙◌, ap}
-use mathlib.Core.Bool.{Bool}
-use Prim.Native.Nat.{ℕ, ◌+◌, ◌-◌, ◌*◌}
-use native.Mathlib.Omega.{arith}
-use lib.Dec.{leb}
+use mathlib.Core.Path.{◌≡◌}
+use Prim.Native.Nat.{ℕ, ◌+◌, ◌-◌}
 use lib.ListN.{get_or}
-use borrow.Author.Tests.{not-true, not-false}
-use borrow.Author.Rules.{rules}
 use Rattle.schedule.specs.Lists.{all?, tab}
 use Rattle.schedule.specs.Table as Rules
 use Rattle.table.specs.Fresh.{no_node}
-use Rattle.table.specs.declared.Node.{Node}
 use Rattle.reading.specs.Memory.{node_of, graph_of}
-use Rattle.admission.proofs.PaceLaws.{passes_next, fails_here, passes_all}
 use Rattle.admission.proofs.paces.graph_keeps_up.Given as goal
 
 abbrev pub invariant-loop-k : goal.invariant-loop-k

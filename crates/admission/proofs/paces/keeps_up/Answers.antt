@@ -1,16 +1,12 @@
 -- `keeps_up` meets its contract: at each turn it is left to the graphs from g on.
 use mathlib.Core.Path.{◌≡◌, sym, ◌∙◌, ap}
-use mathlib.Core.Bool.{Bool}
-use Prim.Native.Nat.{ℕ, ◌+◌, ◌-◌}
+use Prim.Native.Nat.{ℕ, ◌-◌}
 use native.Mathlib.Omega.{arith}
 use lib.ListN.{get_or}
-use borrow.Author.Tests.{not-true, not-false}
-use borrow.Author.Rules.{rules}
-use Rattle.schedule.specs.Lists.{all?, tab}
 use Rattle.schedule.specs.Table as Rules
 use Rattle.table.specs.Fresh.{no_graph}
 use Rattle.table.specs.declared.Graph.{Graph}
-use Rattle.reading.specs.Memory.{graph_of, table_of}
+use Rattle.reading.specs.Memory.{graph_of}
 use Rattle.admission.proofs.PaceLaws.{passes_next, fails_here, passes_all}
 use Rattle.admission.proofs.paces.keeps_up.Invariants.{keeps}
 use Rattle.admission.proofs.paces.keeps_up.Goals as goal

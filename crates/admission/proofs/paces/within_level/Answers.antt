@@ -1,6 +1,5 @@
 -- `within_level` meets its contract: the product fits 64 bits.
 use Prim.Native.Nat.{◌-◌}
-use borrow.Author.Rules.{rules}
 use Rattle.numbers.proofs.Products.{product_fits}
 use Rattle.admission.proofs.paces.within_level.Goals as goal
 

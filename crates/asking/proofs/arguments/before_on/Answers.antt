@@ -1,6 +1,5 @@
 -- `before_on_lem` meets its contract.
 use Rattle.asking.proofs.Earlier.{zero_before, other_before}
-use borrow.Author.Rules.{rules}
 use Rattle.asking.proofs.arguments.before_on.Goals as goal
 
 pub returns-then-n-eq0 : goal.returns-then-n-eq0

@@ -1,9 +1,8 @@
 -- `passed_by` meets its contract: at each turn what has passed stands for the bytes before i.
-use mathlib.Core.Path.{◌≡◌, refl, sym, ap, ◌∙◌}
+use mathlib.Core.Path.{refl, sym, ap, ◌∙◌}
 use Prim.Native.Nat.{◌+◌, ◌-◌}
 use native.Mathlib.Omega.{arith}
-use lib.ListN.{length, drop}
-use borrow.Author.Rules.{rules}
+use lib.ListN.{drop}
 use Rattle.asking.specs.declared.arguments.Passed.{Passed}
 use Rattle.asking.specs.Arguments.{passed_on, passed_by}
 use Rattle.asking.proofs.Pieces.{one_more_lem, no_more}

@@ -1,11 +1,7 @@
-use mathlib.Core.Path.{◌≡◌, refl, sym, ap, ◌∙◌}
-use Prim.Native.Nat.{◌+◌, ◌-◌}
-use native.Mathlib.Omega.{arith}
+use mathlib.Core.Path.{◌≡◌}
+use Prim.Native.Nat.{◌-◌}
 use lib.ListN.{length, drop}
-use borrow.Author.Rules.{rules}
-use Rattle.asking.specs.declared.arguments.Passed.{Passed}
-use Rattle.asking.specs.Arguments.{passed_on, passed_by}
-use Rattle.asking.proofs.Pieces.{one_more_lem, no_more}
+use Rattle.asking.specs.Arguments.{passed_by}
 use Rattle.asking.proofs.arguments.passed_by.Given as goal
 
 abbrev pub invariant-loop-i : goal.invariant-loop-i

@@ -1,5 +1,4 @@
 -- `passed_on` meets its contract.
-use borrow.Author.Rules.{rules}
 use Rattle.asking.proofs.arguments.passed_on.Goals as goal
 
 pub returns-in-Before : goal.returns-in-Before

@@ -2,7 +2,6 @@
 use mathlib.Core.Path.{ap}
 use borrow.Author.Tests.{ne_eqb}
 use Rattle.asking.specs.declared.arguments.Passed.TheVariants.{Within}
-use borrow.Author.Rules.{rules}
 use Rattle.asking.proofs.arguments.within_on.Goals as goal
 
 pub returns-then-c-eq0 : goal.returns-then-c-eq0

@@ -1,6 +1,5 @@
 -- `file_asked` meets its contract.
 use mathlib.Core.Path.{sym, ◌∙◌}
-use borrow.Author.Rules.{rules}
 use Rattle.asking.proofs.files.file_asked.Goals as goal
 
 pub returns-then-is_margin : goal.returns-then-is_margin

@@ -1,7 +1,6 @@
 -- `is_margin` meets its contract, by what the scanner of a text found.
 use Rattle.asking.specs.Questions.{margin}
 use Rattle.asking.proofs.Asking.{word_found, no_word}
-use borrow.Author.Rules.{rules}
 use Rattle.asking.proofs.files.is_margin.Goals as goal
 
 pub returns-in-After : goal.returns-in-After

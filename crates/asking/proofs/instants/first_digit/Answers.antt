@@ -3,7 +3,6 @@ use mathlib.Core.Path.{sym, ◌∙◌}
 use borrow.Author.Tests.{ne_eqb}
 use Rattle.format.specs.Bytes.{digit_zero}
 use Rattle.scanning.proofs.ScannerLaws.{digit_value}
-use borrow.Author.Rules.{rules}
 use Rattle.asking.proofs.instants.first_digit.Goals as goal
 
 pub overflow_sub-result : goal.overflow_sub-result

@@ -2,7 +2,6 @@
 use mathlib.Core.Path.{sym, ◌∙◌, ap}
 use Rattle.asking.specs.declared.instants.Spelled.TheVariants as Spelled
 use Rattle.scanning.proofs.ScannerLaws.{digit_value}
-use borrow.Author.Rules.{rules}
 use Rattle.asking.proofs.instants.further_digit.Goals as goal
 
 pub overflow_sub-c : goal.overflow_sub-c

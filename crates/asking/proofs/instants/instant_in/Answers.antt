@@ -1,5 +1,4 @@
 -- `instant_in` meets its contract.
-use borrow.Author.Rules.{rules}
 use Rattle.asking.proofs.instants.instant_in.Goals as goal
 
 pub returns-in-Number : goal.returns-in-Number

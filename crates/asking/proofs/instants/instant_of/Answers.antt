@@ -1,11 +1,9 @@
 -- `instant_of` meets its contract: at each turn what is spelled stands for the bytes before i.
-use mathlib.Core.Path.{◌≡◌, refl, sym, ap, ◌∙◌}
+use mathlib.Core.Path.{refl, sym, ap, ◌∙◌}
 use Prim.Native.Nat.{◌+◌, ◌-◌}
 use native.Mathlib.Omega.{arith}
-use lib.ListN.{length, drop}
-use borrow.Author.Rules.{rules}
+use lib.ListN.{drop}
 use Rattle.asking.specs.declared.instants.Spelled.{Spelled}
-use Rattle.asking.specs.declared.instants.Spelled.TheVariants as Spelled
 use Rattle.asking.specs.Instants.{spelled_on, spelled_by, instant_in}
 use Rattle.asking.proofs.Pieces.{one_more_lem, no_more}
 use Rattle.asking.proofs.Spellings.{instant_spelled}

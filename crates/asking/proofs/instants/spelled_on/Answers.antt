@@ -1,5 +1,4 @@
 -- `spelled_on` meets its contract.
-use borrow.Author.Rules.{rules}
 use Rattle.asking.proofs.instants.spelled_on.Goals as goal
 
 pub returns-in-Nothing : goal.returns-in-Nothing

@@ -2,7 +2,6 @@
 use native.Mathlib.Omega.{arith}
 use borrow.Author.Tests.{lt-ltb, le-ltb}
 use Rattle.schedule.specs.Limits as Limits
-use borrow.Author.Rules.{rules}
 use Rattle.asking.proofs.lengths.lengths_on.Goals as goal
 
 pub returns-then-at-lt-TABLES : goal.returns-then-at-lt-TABLES

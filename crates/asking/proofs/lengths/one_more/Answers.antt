@@ -2,7 +2,6 @@
 use native.Mathlib.Omega.{arith}
 use borrow.Author.Tests.{le-leb, lt-leb}
 use Rattle.schedule.specs.Limits as Limits
-use borrow.Author.Rules.{rules}
 use Rattle.asking.proofs.lengths.one_more.Goals as goal
 
 pub returns-then-count-le-TABLES : goal.returns-then-count-le-TABLES

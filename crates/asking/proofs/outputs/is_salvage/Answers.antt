@@ -1,7 +1,6 @@
 -- `is_salvage` meets its contract, by what the scanner of a text found.
 use Rattle.asking.specs.Questions.{salvage}
 use Rattle.asking.proofs.Asking.{word_found, no_word}
-use borrow.Author.Rules.{rules}
 use Rattle.asking.proofs.outputs.is_salvage.Goals as goal
 
 pub returns-in-After : goal.returns-in-After

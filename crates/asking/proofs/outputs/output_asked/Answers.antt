@@ -1,6 +1,5 @@
 -- `output_asked` meets its contract.
 use mathlib.Core.Path.{sym, ◌∙◌}
-use borrow.Author.Rules.{rules}
 use Rattle.asking.proofs.outputs.output_asked.Goals as goal
 
 pub returns-then-is_salvage : goal.returns-then-is_salvage

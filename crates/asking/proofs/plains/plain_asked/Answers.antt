@@ -1,6 +1,5 @@
 -- `plain_asked` meets its contract.
 use mathlib.Core.Path.{sym, ◌∙◌}
-use borrow.Author.Rules.{rules}
 use Rattle.asking.proofs.plains.plain_asked.Goals as goal
 
 pub returns-then-is_plain : goal.returns-then-is_plain

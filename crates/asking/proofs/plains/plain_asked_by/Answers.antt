@@ -1,6 +1,5 @@
 -- `plain_asked_by` meets its contract.
 use mathlib.Core.Path.{sym, ◌∙◌}
-use borrow.Author.Rules.{rules}
 use Rattle.asking.proofs.plains.plain_asked_by.Goals as goal
 
 pub returns-then-is_row : goal.returns-then-is_row

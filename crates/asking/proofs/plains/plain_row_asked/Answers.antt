@@ -1,5 +1,4 @@
 -- `plain_row_asked` meets its contract.
-use borrow.Author.Rules.{rules}
 use Rattle.asking.proofs.plains.plain_row_asked.Goals as goal
 
 pub returns-in-At : goal.returns-in-At

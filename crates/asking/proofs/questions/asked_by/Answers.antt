@@ -1,7 +1,6 @@
 -- `asked_by` meets its contract.
 use mathlib.Core.Path.{sym, ◌∙◌}
 use borrow.Author.Tests.{ne_eqb}
-use borrow.Author.Rules.{rules}
 use Rattle.asking.proofs.questions.asked_by.Goals as goal
 
 pub returns-then-count-eq1 : goal.returns-then-count-eq1

@@ -1,6 +1,5 @@
 -- `rewrite_asked` meets its contract.
 use mathlib.Core.Path.{sym, ◌∙◌}
-use borrow.Author.Rules.{rules}
 use Rattle.asking.proofs.rewrites.rewrite_asked.Goals as goal
 
 pub returns-then-is_rewrite : goal.returns-then-is_rewrite

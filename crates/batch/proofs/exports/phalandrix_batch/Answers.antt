@@ -1,8 +1,6 @@
 -- `phalandrix_batch` meets its contract, by the test of the lengths.
 use mathlib.Core.Path.{◌≡◌, refl, sym, ◌∙◌}
 use mathlib.Core.Bool.{true, false}
-use borrow.Author.Rules.{rules}
-use borrow.Author.Tests.{not-true, not-false}
 use Rattle.batch.proofs.TrueBatches.{told_together, told_refused, true_together, true_refused, add_up_says}
 use Rattle.batch.proofs.exports.phalandrix_batch.Goals as goal
 

@@ -1,9 +1,7 @@
 -- `adds_up` meets its contract: at each turn the lengths so far and the bytes that are left add up to the bytes.
-use mathlib.Core.Path.{◌≡◌, refl, sym}
-use Prim.Native.Nat.{◌+◌, ◌-◌}
+use mathlib.Core.Path.{refl, sym}
+use Prim.Native.Nat.{◌-◌}
 use native.Mathlib.Omega.{arith}
-use lib.ListN.{length, drop}
-use borrow.Author.Rules.{rules}
 use borrow.Author.Tests.{ne_eqb}
 use Rattle.rules.specs.Batch.{total}
 use Rattle.batch.proofs.Sharing.{total_next, total_done, none_left}

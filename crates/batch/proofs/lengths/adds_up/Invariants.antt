@@ -1,11 +1,7 @@
-use mathlib.Core.Path.{◌≡◌, refl, sym}
+use mathlib.Core.Path.{◌≡◌}
 use Prim.Native.Nat.{◌+◌, ◌-◌}
-use native.Mathlib.Omega.{arith}
 use lib.ListN.{length, drop}
-use borrow.Author.Rules.{rules}
-use borrow.Author.Tests.{ne_eqb}
 use Rattle.rules.specs.Batch.{total}
-use Rattle.batch.proofs.Sharing.{total_next, total_done, none_left}
 use Rattle.batch.proofs.lengths.adds_up.Given as goal
 
 abbrev pub invariant-loop-i : goal.invariant-loop-i

@@ -1,7 +1,6 @@
 -- `is_batch` meets its contract.
 use native.Mathlib.Omega.{arith}
 use lib.ListN.{length}
-use borrow.Author.Rules.{rules}
 use borrow.Author.Tests.{le-leb, lt-leb}
 use Rattle.schedule.specs.Limits as Limits
 use Rattle.rules.specs.Batch.{add_up}

@@ -1,14 +1,14 @@
 -- `shared_out` meets its contract: at each turn the calls that are still to be made complete what is there.
 use Prim.Native.Nat.{◌+◌, ◌-◌}
 use native.Mathlib.Omega.{arith}
-use lib.ListN.{length, get_or}
+use lib.ListN.{get_or}
 use borrow.Author.Rules.{rules}
 use Rattle.rules.specs.Batch.{share_length}
-use Rattle.batch.proofs.Sharing.{Underway, begun, all_made, counted, in_tables_still, in_buffer_still, next_in_code}
+use Rattle.batch.proofs.Sharing.{begun, all_made, counted, in_tables_still, in_buffer_still, next_in_code}
 use Rattle.batch.proofs.shares.shared_out.Goals as goal
 
 pub loop-i-init : goal.loop-i-init
-loop-i-init c =  rw c.no_answer-none.ensures (begun _ _ _ c.requires.lengths_value)
+loop-i-init c = rw c.no_answer-none.ensures (begun _ _ _ c.requires.lengths_value)
 
 pub overflow_add-end : goal.overflow_add-end
 overflow_add-end c =

@@ -1,9 +1,6 @@
-use Prim.Native.Nat.{◌+◌, ◌-◌}
-use native.Mathlib.Omega.{arith}
-use lib.ListN.{length, get_or}
-use borrow.Author.Rules.{rules}
-use Rattle.rules.specs.Batch.{share_length}
-use Rattle.batch.proofs.Sharing.{Underway, begun, all_made, counted, in_tables_still, in_buffer_still, next_in_code}
+use Prim.Native.Nat.{◌-◌}
+use lib.ListN.{length}
+use Rattle.batch.proofs.Sharing.{Underway}
 use Rattle.batch.proofs.shares.shared_out.Given as goal
 
 abbrev pub invariant-loop-i : goal.invariant-loop-i

@@ -1,7 +1,6 @@
 -- `nodes_of` meets its contract: the first entries are taken over.
-use mathlib.Core.Path.{◌≡◌, refl, ap}
-use mathlib.Core.List.{List}
-use Prim.Native.Nat.{ℕ, ◌-◌, ◌≤◌}
+use mathlib.Core.Path.{refl}
+use Prim.Native.Nat.{ℕ, ◌-◌}
 use native.Mathlib.Nat.{le_antisymm}
 use native.Mathlib.Omega.{arith}
 use lib.ListN.{get_or, replicate}
@@ -9,10 +8,8 @@ use Rattle.schedule.specs.Limits as Limits
 use Rattle.table.specs.Fresh as Fresh
 use Rattle.window.specs.Loops.{replaced}
 use Rattle.window.proofs.LoopLaws.{replaced_more}
-use Rattle.memory.specs.Plain.{no_node, no_graph}
-use Rattle.memory.specs.declared.plain.PhalandrixGraph.{PhalandrixGraph}
-use Rattle.editing.specs.Plains.{plain_graph, plain_node}
-use borrow.Author.Rules.{rules}
+use Rattle.memory.specs.Plain.{no_node}
+use Rattle.editing.specs.Plains.{plain_node}
 use Rattle.editing.proofs.plains.nodes_of.Goals as goal
 
 pub loop-i-init : goal.loop-i-init

@@ -1,17 +1,11 @@
-use mathlib.Core.Path.{◌≡◌, refl, ap}
-use mathlib.Core.List.{List}
+use mathlib.Core.Path.{◌≡◌}
 use Prim.Native.Nat.{ℕ, ◌-◌, ◌≤◌}
-use native.Mathlib.Nat.{le_antisymm}
-use native.Mathlib.Omega.{arith}
 use lib.ListN.{get_or, replicate}
 use Rattle.schedule.specs.Limits as Limits
 use Rattle.table.specs.Fresh as Fresh
 use Rattle.window.specs.Loops.{replaced}
-use Rattle.window.proofs.LoopLaws.{replaced_more}
-use Rattle.memory.specs.Plain.{no_node, no_graph}
-use Rattle.memory.specs.declared.plain.PhalandrixGraph.{PhalandrixGraph}
-use Rattle.editing.specs.Plains.{plain_graph, plain_node}
-use borrow.Author.Rules.{rules}
+use Rattle.memory.specs.Plain.{no_node}
+use Rattle.editing.specs.Plains.{plain_node}
 use Rattle.editing.proofs.plains.nodes_of.Given as goal
 
 abbrev pub invariant-loop-i : goal.invariant-loop-i

@@ -1,6 +1,5 @@
 -- `plain_of` meets its contract: field by field.
 use mathlib.Core.Path.{refl}
-use borrow.Author.Rules.{rules}
 use Rattle.editing.proofs.plains.plain_of.Goals as goal
 
 pub returns : goal.returns

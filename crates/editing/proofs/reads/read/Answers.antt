@@ -6,7 +6,6 @@ use Rattle.reading.specs.Outcomes.{end_of}
 use Rattle.reading.proofs.Images.{image_done, image_refused}
 use Rattle.editing.specs.Plains.{plain_of}
 use Rattle.editing.proofs.Editing.{read_failed, read_done}
-use borrow.Author.Rules.{rules}
 use Rattle.editing.proofs.reads.read.Goals as goal
 
 pub returns-in-Refused : goal.returns-in-Refused

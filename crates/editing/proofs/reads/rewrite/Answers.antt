@@ -8,7 +8,6 @@ use Rattle.editing.specs.declared.reads.ReadTable.{ReadTable}
 use Rattle.editing.specs.Editing.{rewrite_of}
 use Rattle.editing.proofs.CallLaws.{refused_call}
 use Rattle.editing.proofs.Editing.{rewrite_written, rewrite_refuses}
-use borrow.Author.Rules.{rules}
 use Rattle.editing.proofs.reads.rewrite.Goals as goal
 
 pub returns-in-Refused : goal.returns-in-Refused

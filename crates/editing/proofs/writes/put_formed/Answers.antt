@@ -4,7 +4,6 @@ use native.Mathlib.Omega.{arith}
 use lib.Seq.{length-take-le}
 use Rattle.editing.proofs.CallLaws.{short_call, written_call}
 use Rattle.editing.proofs.Editing.{few_graphs, few_nodes, text_within, in_room, text_inside}
-use borrow.Author.Rules.{rules}
 use Rattle.editing.proofs.writes.put_formed.Goals as goal
 
 pub put_table-n-requires : goal.put_table-n-requires

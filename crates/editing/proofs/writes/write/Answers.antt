@@ -4,7 +4,6 @@ use Rattle.rules.specs.Answers.{call_of}
 use Rattle.memory.specs.Plain.{table_in}
 use Rattle.editing.proofs.CallLaws.{refused_call}
 use Rattle.editing.proofs.Editing.{judged_refused, judged_written, judged_formed}
-use borrow.Author.Rules.{rules}
 use Rattle.editing.proofs.writes.write.Goals as goal
 
 pub put_formed-requires : goal.put_formed-requires

@@ -1,6 +1,5 @@
 -- `phalandrix_read` meets its contract: it tells what `read` returns.
 use Rattle.editor.proofs.Readings.{reading_passed, reading_refused}
-use borrow.Author.Rules.{rules}
 use Rattle.editor.proofs.exports.phalandrix_read.Goals as goal
 
 pub returns-in-Passes : goal.returns-in-Passes

@@ -1,6 +1,5 @@
 -- `phalandrix_write` meets its contract: it tells what `write` answers.
 use Rattle.sheet.proofs.ExportLaws.{told_call}
-use borrow.Author.Rules.{rules}
 use Rattle.editor.proofs.exports.phalandrix_write.Goals as goal
 
 pub returns : goal.returns

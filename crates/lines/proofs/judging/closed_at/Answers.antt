@@ -1,7 +1,6 @@
 -- `closed_at` meets its contract.
 use mathlib.Core.Path.{sym, ◌∙◌, ap}
 use Prim.Native.Nat.{◌-◌}
-use borrow.Author.Rules.{rules}
 use Rattle.scanning.specs.Positions.{found_of}
 use Rattle.lines.proofs.judging.closed_at.Goals as goal
 

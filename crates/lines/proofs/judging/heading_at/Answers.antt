@@ -3,7 +3,6 @@ use mathlib.Core.List.{List}
 use mathlib.Core.Path.{sym, ◌∙◌, ap, subst}
 use Prim.Native.Nat.{ℕ, ◌-◌, ◌≤◌}
 use lib.ListN.{length, take, drop}
-use borrow.Author.Rules.{rules}
 use Rattle.format.specs.Spelling.{text}
 use Rattle.table.specs.Keys.{name_length}
 use Rattle.table.specs.declared.Key.{Key}
@@ -12,7 +11,7 @@ use Rattle.lines.proofs.KeyLaws.{name_fits, coded_name}
 use Rattle.lines.proofs.judging.heading_at.Goals as goal
 
 pub text_at-requires : goal.text_at-requires
-text_at-requires c =  subst (λ (K : Key). K.length ≤ name_length) (sym c.key-key.ensures) (name_fits c.args.k)
+text_at-requires c = subst (λ (K : Key). K.length ≤ name_length) (sym c.key-key.ensures) (name_fits c.args.k)
 
 pub returns-in-Wrong : goal.returns-in-Wrong
 returns-in-Wrong c =

@@ -2,7 +2,6 @@
 use mathlib.Core.Path.{sym, ◌∙◌, ap}
 use Prim.Native.Nat.{◌-◌}
 use lib.ListN.{drop}
-use borrow.Author.Rules.{rules}
 use borrow.Author.Tests.{eq-eqb, ne_eqb}
 use Rattle.format.specs.Keys as Keys
 use Rattle.scanning.specs.Positions.{found_of}

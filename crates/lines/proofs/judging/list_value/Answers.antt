@@ -4,7 +4,6 @@ use mathlib.Core.Path.{sym, ◌∙◌, ap}
 use mathlib.Core.List.{List}
 use Prim.Native.Nat.{ℕ, ◌-◌}
 use lib.ListN.{drop}
-use borrow.Author.Rules.{rules}
 use Rattle.format.specs.Spelling.{list}
 use Rattle.format.specs.Reading.{offending}
 use Rattle.table.specs.declared.Key.{Key}

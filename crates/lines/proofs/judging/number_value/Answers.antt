@@ -3,7 +3,6 @@ use mathlib.Core.Bool.{Bool}
 use mathlib.Core.Path.{sym, ◌∙◌, ap}
 use Prim.Native.Nat.{ℕ, ◌-◌}
 use lib.ListN.{drop}
-use borrow.Author.Rules.{rules}
 use Rattle.format.specs.Keys.{key_at}
 use Rattle.format.specs.Spelling.{number}
 use Rattle.schedule.specs.WellFormed.{within}

@@ -1,7 +1,6 @@
 -- `value_column` meets its contract: the length in the code's key is that of the key's name.
 use mathlib.Core.Path.{ap}
 use native.Mathlib.Omega.{arith}
-use borrow.Author.Rules.{rules}
 use Rattle.table.specs.declared.Key.{Key}
 use Rattle.lines.proofs.KeyLaws.{name_fits}
 use Rattle.lines.proofs.judging.value_column.Goals as goal

@@ -1,7 +1,6 @@
 -- `column_at` meets its contract: no line is longer than a table.
 use native.Mathlib.Omega.{arith}
 use lib.ListN.{length-drop}
-use borrow.Author.Rules.{rules}
 use Rattle.lines.proofs.numbering.column_at.Goals as goal
 
 pub overflow_cast-result : goal.overflow_cast-result

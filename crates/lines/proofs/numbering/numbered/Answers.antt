@@ -1,5 +1,4 @@
 -- `numbered` meets its contract.
-use borrow.Author.Rules.{rules}
 use Rattle.lines.proofs.numbering.numbered.Goals as goal
 
 pub returns-in-Value : goal.returns-in-Value

@@ -1,7 +1,6 @@
 -- `one_at` meets its contract.
 use mathlib.Core.Path.{◌∙◌, ap}
 use native.Mathlib.Omega.{arith}
-use borrow.Author.Rules.{rules}
 use Rattle.lines.specs.Numbered.{line_read_of}
 use Rattle.lines.proofs.NumberedLaws.{line_numbered}
 use Rattle.lines.proofs.numbering.one_at.Goals as goal

@@ -1,7 +1,6 @@
 -- `three_at` meets its contract.
 use mathlib.Core.Path.{◌∙◌, ap}
 use native.Mathlib.Omega.{arith}
-use borrow.Author.Rules.{rules}
 use Rattle.lines.specs.Numbered.{three_read_of}
 use Rattle.lines.proofs.NumberedLaws.{three_numbered_lem}
 use Rattle.lines.proofs.numbering.three_at.Goals as goal

@@ -3,7 +3,6 @@ use mathlib.Core.Path.{sym}
 use Rattle.sheet.proofs.Planning.{planned_refused, planned_walkable, planned_few}
 use Rattle.margin.proofs.Planning.{planned_margin, refused_margin}
 use Rattle.margin.proofs.Laws.{answers_named, answers_by, of_table_lem, true_margins}
-use borrow.Author.Rules.{rules}
 use Rattle.margin.proofs.answering.margin.Goals as goal
 
 pub walk_to-w-requires : goal.walk_to-w-requires

@@ -1,6 +1,5 @@
 -- `margin_walk` meets its contract, by how the walk ended.
 use Rattle.margin.proofs.Laws.{answers_by, of_table_lem}
-use borrow.Author.Rules.{rules}
 use Rattle.margin.proofs.answering.margin_walk.Goals as goal
 
 pub returns-in-Settled : goal.returns-in-Settled

@@ -4,7 +4,6 @@ use lib.ListN.{take}
 use Rattle.reading.specs.Outcomes.{end_of}
 use Rattle.margins.specs.Margins.{on_limits}
 use Rattle.margin.proofs.Laws.{answers_named, answers_by, of_limits, of_text}
-use borrow.Author.Rules.{rules}
 use Rattle.margin.proofs.answering.on_limits.Goals as goal
 
 pub returns-in-Refused : goal.returns-in-Refused

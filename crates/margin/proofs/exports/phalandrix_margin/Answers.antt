@@ -1,6 +1,5 @@
 -- `phalandrix_margin` meets its contract: it tells what `margin` answers.
 use Rattle.margin.proofs.Laws.{told_margin, answered}
-use borrow.Author.Rules.{rules}
 use Rattle.margin.proofs.exports.phalandrix_margin.Goals as goal
 
 pub returns : goal.returns

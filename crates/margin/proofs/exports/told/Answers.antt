@@ -1,5 +1,4 @@
 -- `told` meets its contract.
-use borrow.Author.Rules.{rules}
 use Rattle.margin.proofs.exports.told.Goals as goal
 
 pub returns-then-a : goal.returns-then-a

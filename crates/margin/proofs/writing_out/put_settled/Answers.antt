@@ -1,6 +1,5 @@
 -- `put_settled` meets its contract: the text does not fit, and nothing is written; or it is written.
 use Rattle.sheet.proofs.CallLaws.{short_call, written_call}
-use borrow.Author.Rules.{rules}
 use Rattle.margin.proofs.writing_out.put_settled.Goals as goal
 
 pub returns-then-buffer-n : goal.returns-then-buffer-n

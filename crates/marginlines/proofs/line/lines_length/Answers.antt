@@ -5,7 +5,6 @@ use lib.ListN.{length, length-append}
 use Rattle.rules.specs.Answers.{answer_line}
 use Rattle.margins.specs.Margins.{margin_line}
 use Rattle.writing.proofs.AnswerLine.{line_is}
-use borrow.Author.Rules.{rules}
 use Rattle.marginlines.proofs.line.lines_length.Goals as goal
 
 pub returns : goal.returns

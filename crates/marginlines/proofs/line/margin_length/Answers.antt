@@ -1,13 +1,11 @@
 -- `margin_length` meets its contract: a minus sign is one byte more.
 use mathlib.Core.Path.{◌∙◌, ap}
-use mathlib.Core.List.{List, [], ◌∷◌}
 use Prim.Native.Nat.{◌-◌}
 use native.Mathlib.Omega.{arith}
 use lib.ListN.{length, length-append}
-use Rattle.format.specs.Bytes.{bytes, line_feed, decimal}
+use Rattle.format.specs.Bytes.{bytes, line_feed}
 use Rattle.writing.specs.Line.{ended}
 use Rattle.marginlines.proofs.Margins.{kept_line, over_line}
-use borrow.Author.Rules.{rules}
 use Rattle.marginlines.proofs.line.margin_length.Goals as goal
 
 pub returns-then-response-limit : goal.returns-then-response-limit

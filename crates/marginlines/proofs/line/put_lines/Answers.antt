@@ -8,7 +8,6 @@ use Rattle.rules.specs.Answers.{answer_line}
 use Rattle.margins.specs.Margins.{margin_line}
 use Rattle.writing.proofs.Writing.{named, begins, room, both}
 use Rattle.writing.proofs.AnswerLine.{line_is}
-use borrow.Author.Rules.{rules}
 use Rattle.marginlines.proofs.line.put_lines.Goals as goal
 
 pub put_line-at-requires : goal.put_line-at-requires

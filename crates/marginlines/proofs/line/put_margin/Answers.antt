@@ -1,6 +1,6 @@
 -- `put_margin` meets its contract: a line as the others, or one whose digits begin behind a minus sign.
-use mathlib.Core.Path.{sym, ap}
-use mathlib.Core.List.{List, ◌++◌}
+use mathlib.Core.Path.{ap}
+use mathlib.Core.List.{List}
 use Prim.Native.Nat.{ℕ, ◌+◌, ◌-◌, ◌≤◌, ◌<◌}
 use native.Mathlib.Omega.{arith}
 use lib.ListN.{length, length-append}
@@ -8,7 +8,6 @@ use Rattle.format.specs.Bytes.{bytes, line_feed}
 use Rattle.writing.specs.Line.{ended}
 use Rattle.writing.proofs.Writing.{named, begins, room, both}
 use Rattle.marginlines.proofs.Margins.{kept_line, over_line}
-use borrow.Author.Rules.{rules}
 use Rattle.marginlines.proofs.line.put_margin.Goals as goal
 
 pub put_line-requires : goal.put_line-requires

@@ -1,12 +1,10 @@
 -- `graphs_length` meets its contract. The loop's invariant: `n` is the length of the first `g` graphs' lines, which are at most the longest.
 use mathlib.Core.Path.{◌≡◌, refl, ap, ◌∙◌}
-use mathlib.Core.List.{List}
-use Prim.Native.Nat.{ℕ, ◌*◌, ◌-◌, ◌≤◌, ◌<◌}
+use Prim.Native.Nat.{ℕ, ◌-◌}
 use native.Mathlib.Omega.{arith}
 use lib.ListN.{length, take, get_or, length-append}
-use Rattle.schedule.specs.Limits as Limits
 use Rattle.margins.specs.Margins.{margin_lines}
-use Rattle.marginlines.specs.Lines.{graph_lines, longest_lines}
+use Rattle.marginlines.specs.Lines.{graph_lines}
 use Rattle.marginlines.proofs.Margins.{graph_more}
 use Rattle.marginlines.proofs.text.graphs_length.Goals as goal
 

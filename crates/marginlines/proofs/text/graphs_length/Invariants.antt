@@ -1,12 +1,8 @@
-use mathlib.Core.Path.{◌≡◌, refl, ap, ◌∙◌}
-use mathlib.Core.List.{List}
-use Prim.Native.Nat.{ℕ, ◌*◌, ◌-◌, ◌≤◌, ◌<◌}
-use native.Mathlib.Omega.{arith}
-use lib.ListN.{length, take, get_or, length-append}
-use Rattle.schedule.specs.Limits as Limits
+use mathlib.Core.Path.{◌≡◌}
+use Prim.Native.Nat.{◌*◌, ◌-◌, ◌≤◌}
+use lib.ListN.{length, take}
 use Rattle.margins.specs.Margins.{margin_lines}
-use Rattle.marginlines.specs.Lines.{graph_lines, longest_lines}
-use Rattle.marginlines.proofs.Margins.{graph_more}
+use Rattle.marginlines.specs.Lines.{longest_lines}
 use Rattle.marginlines.proofs.text.graphs_length.Given as goal
 
 abbrev pub invariant-loop-g : goal.invariant-loop-g

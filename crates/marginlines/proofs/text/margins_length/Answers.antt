@@ -5,7 +5,6 @@ use lib.ListN.{length, take, length-append}
 use Rattle.rules.specs.Answers.{report_text}
 use Rattle.margins.specs.Margins.{margin_lines}
 use Rattle.marginlines.proofs.Margins.{head_first}
-use borrow.Author.Rules.{rules}
 use Rattle.marginlines.proofs.text.margins_length.Goals as goal
 
 pub returns : goal.returns

@@ -1,15 +1,8 @@
-use mathlib.Core.Path.{◌≡◌, refl, ap}
-use mathlib.Core.List.{List}
-use Prim.Native.Nat.{ℕ, ◌+◌, ◌-◌, ◌≤◌, ◌<◌}
-use native.Mathlib.Omega.{arith}
-use lib.ListN.{length, take, get_or}
-use borrow.Author.Rules.{rules}
-use Rattle.schedule.specs.Limits as Limits
+use mathlib.Core.Path.{◌≡◌}
+use Prim.Native.Nat.{◌-◌, ◌≤◌}
+use lib.ListN.{length, take}
 use Rattle.margins.specs.Margins.{margin_lines}
 use Rattle.writing.specs.Written.{Written}
-use Rattle.writing.proofs.Writing.{nothing, named, begins, room, both, keeps}
-use Rattle.marginlines.specs.Lines.{graph_lines}
-use Rattle.marginlines.proofs.Margins.{graph_more, graph_fits}
 use Rattle.marginlines.proofs.text.put_graphs.Given as goal
 
 abbrev pub invariant-loop-g : goal.invariant-loop-g

@@ -4,7 +4,6 @@ use native.Mathlib.Omega.{arith}
 use Prim.Native.Nat.{ℕ, ◌+◌, ◌*◌}
 use Rattle.memory.specs.Judged.{judged_as}
 use Rattle.memory.proofs.JudgeLaws.{head_few, graph_stop, graph_pass}
-use borrow.Author.Rules.{rules}
 use Rattle.memory.proofs.judging.graph_judged.Goals as goal
 
 pub three_judged-requires : goal.three_judged-requires

@@ -1,10 +1,9 @@
 -- `graph_nodes_judged` meets its contract: too many nodes, a node that does not pass, or the successors.
-use mathlib.Core.Path.{◌≡◌, sym, ap, ◌∙◌}
+use mathlib.Core.Path.{sym, ap, ◌∙◌}
 use native.Mathlib.Omega.{arith}
 use Prim.Native.Nat.{◌+◌, ◌*◌}
 use Rattle.memory.specs.Judged.{judged_as}
 use Rattle.memory.proofs.JudgeLaws.{graph_nodes_over, graph_nodes_stop, graph_nodes_pass}
-use borrow.Author.Rules.{rules}
 use Rattle.memory.proofs.judging.graph_nodes_judged.Goals as goal
 
 pub overflow_add-total : goal.overflow_add-total

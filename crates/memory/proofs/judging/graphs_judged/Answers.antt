@@ -1,6 +1,6 @@
 -- `graphs_judged` meets its contract: at each turn the graphs from entry g on are to be judged, behind `total` nodes.
 use mathlib.Core.Path.{◌≡◌, refl, sym, ap, ◌∙◌}
-use Prim.Native.Nat.{ℕ, ◌+◌, ◌-◌, ◌*◌, ◌≤◌}
+use Prim.Native.Nat.{◌+◌, ◌-◌, ◌*◌, ◌≤◌}
 use native.Mathlib.Omega.{arith}
 use lib.ListN.{get_or}
 use Rattle.schedule.specs.Limits as Limits
@@ -9,7 +9,6 @@ use Rattle.memory.specs.declared.plain.PhalandrixGraph.{PhalandrixGraph}
 use Rattle.memory.specs.Plain.{no_graph, graph_in, graphs_in}
 use Rattle.memory.specs.Judged.{judged_as, judged_of}
 use Rattle.memory.proofs.JudgeLaws.{graph_passed, graphs_one, graphs_stop, graphs_none}
-use borrow.Author.Rules.{rules}
 use Rattle.memory.proofs.judging.graphs_judged.Goals as goal
 
 pub overflow_add-at : goal.overflow_add-at

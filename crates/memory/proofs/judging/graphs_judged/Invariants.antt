@@ -1,14 +1,8 @@
-use mathlib.Core.Path.{◌≡◌, refl, sym, ap, ◌∙◌}
-use Prim.Native.Nat.{ℕ, ◌+◌, ◌-◌, ◌*◌, ◌≤◌}
-use native.Mathlib.Omega.{arith}
-use lib.ListN.{get_or}
+use mathlib.Core.Path.{◌≡◌}
+use Prim.Native.Nat.{◌+◌, ◌-◌, ◌*◌, ◌≤◌}
 use Rattle.schedule.specs.Limits as Limits
-use Rattle.writer.specs.Judging.{passes, graph_at, graphs_at}
-use Rattle.memory.specs.declared.plain.PhalandrixGraph.{PhalandrixGraph}
-use Rattle.memory.specs.Plain.{no_graph, graph_in, graphs_in}
-use Rattle.memory.specs.Judged.{judged_as, judged_of}
-use Rattle.memory.proofs.JudgeLaws.{graph_passed, graphs_one, graphs_stop, graphs_none}
-use borrow.Author.Rules.{rules}
+use Rattle.writer.specs.Judging.{graphs_at}
+use Rattle.memory.specs.Plain.{graphs_in}
 use Rattle.memory.proofs.judging.graphs_judged.Given as goal
 
 abbrev pub invariant-loop-g : goal.invariant-loop-g

@@ -1,10 +1,7 @@
 -- `named` meets its contract: at each turn the masks from slot on are to come.
-use mathlib.Core.Path.{◌≡◌, refl, sym, ◌∙◌}
-use Prim.Native.Nat.{◌+◌, ◌-◌}
+use mathlib.Core.Path.{refl, sym, ◌∙◌}
+use Prim.Native.Nat.{◌-◌}
 use native.Mathlib.Omega.{arith}
-use borrow.Author.Rules.{rules}
-use Rattle.schedule.specs.Limits as Limits
-use Rattle.memory.specs.Judged.{named_from, named_in}
 use Rattle.memory.proofs.Named.{named_one, named_none}
 use Rattle.memory.proofs.judging.named.Goals as goal
 

@@ -1,10 +1,6 @@
-use mathlib.Core.Path.{◌≡◌, refl, sym, ◌∙◌}
+use mathlib.Core.Path.{◌≡◌}
 use Prim.Native.Nat.{◌+◌, ◌-◌}
-use native.Mathlib.Omega.{arith}
-use borrow.Author.Rules.{rules}
-use Rattle.schedule.specs.Limits as Limits
 use Rattle.memory.specs.Judged.{named_from, named_in}
-use Rattle.memory.proofs.Named.{named_one, named_none}
 use Rattle.memory.proofs.judging.named.Given as goal
 
 abbrev pub invariant-loop-left : goal.invariant-loop-left

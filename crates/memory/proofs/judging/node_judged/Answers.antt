@@ -1,5 +1,4 @@
 -- `node_judged` meets its contract: the first line that does not pass decides.
-use borrow.Author.Rules.{rules}
 use Rattle.memory.proofs.JudgeLaws.{failed, passed, node_first, node_second, node_third, node_pass}
 use mathlib.Core.Path.{ap}
 use mathlib.Core.Bool.{not}

@@ -1,10 +1,8 @@
 -- `nodes_judged` meets its contract: at each turn the nodes from number own on are to be judged.
 use mathlib.Core.Path.{◌≡◌, refl, sym, ap, ◌∙◌}
-use Prim.Native.Nat.{suc, ◌+◌, ◌-◌, ◌*◌, ◌≤◌}
+use Prim.Native.Nat.{suc, ◌+◌, ◌-◌, ◌*◌}
 use native.Mathlib.Omega.{arith}
-use borrow.Author.Rules.{rules}
-use Rattle.writer.specs.Judging.{passes, nodes_at}
-use Rattle.memory.specs.Plain.{nodes_in}
+use Rattle.writer.specs.Judging.{passes}
 use Rattle.memory.specs.Judged.{judged_as}
 use Rattle.memory.proofs.JudgeLaws.{nodes_one, nodes_stop, nodes_none}
 use Rattle.memory.proofs.judging.nodes_judged.Goals as goal
@@ -43,8 +41,7 @@ loop-own-smaller c = omega arith
 
 pub loop-own-preserved : goal.loop-own-preserved
 loop-own-preserved c =
-    let st = c.loop-own in
-     (
+    let st = c.loop-own in (
       omega arith,
       omega arith,
       omega arith,

@@ -1,11 +1,7 @@
-use mathlib.Core.Path.{◌≡◌, refl, sym, ap, ◌∙◌}
+use mathlib.Core.Path.{◌≡◌}
 use Prim.Native.Nat.{suc, ◌+◌, ◌-◌, ◌*◌, ◌≤◌}
-use native.Mathlib.Omega.{arith}
-use borrow.Author.Rules.{rules}
-use Rattle.writer.specs.Judging.{passes, nodes_at}
+use Rattle.writer.specs.Judging.{nodes_at}
 use Rattle.memory.specs.Plain.{nodes_in}
-use Rattle.memory.specs.Judged.{judged_as}
-use Rattle.memory.proofs.JudgeLaws.{nodes_one, nodes_stop, nodes_none}
 use Rattle.memory.proofs.judging.nodes_judged.Given as goal
 
 abbrev pub invariant-loop-own : goal.invariant-loop-own

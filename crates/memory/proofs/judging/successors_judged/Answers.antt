@@ -1,9 +1,7 @@
 -- `successors_judged` meets its contract: what the masks leave over are the nodes without a successor.
-use mathlib.Core.Path.{◌≡◌, sym, ap, ◌∙◌}
 use native.Mathlib.Omega.{arith}
 use Rattle.memory.proofs.Named.{all_followed_lem, not_followed}
 use Rattle.memory.proofs.JudgeLaws.{successors_pass, successors_fail}
-use borrow.Author.Rules.{rules}
 use Rattle.memory.proofs.judging.successors_judged.Goals as goal
 
 pub named-requires : goal.named-requires

@@ -1,10 +1,8 @@
 -- `table_judged` meets its contract: the head's three lines, then the graphs.
-use mathlib.Core.Path.{◌≡◌, sym, ap, ◌∙◌}
-use Prim.Native.Nat.{◌+◌}
+use mathlib.Core.Path.{sym, ap, ◌∙◌}
 use native.Mathlib.Omega.{arith}
 use Rattle.memory.specs.Judged.{judged_as, judged_of}
 use Rattle.memory.proofs.TableLaws.{table_few, table_stop, table_pass}
-use borrow.Author.Rules.{rules}
 use Rattle.memory.proofs.judging.table_judged.Goals as goal
 
 pub three_judged-requires : goal.three_judged-requires

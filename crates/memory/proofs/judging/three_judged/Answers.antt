@@ -1,5 +1,4 @@
 -- `three_judged` meets its contract: the first number outside its limits decides.
-use borrow.Author.Rules.{rules}
 use Rattle.memory.proofs.JudgeLaws.{failed, passed, three_first, three_second, three_third, three_pass}
 use mathlib.Core.Path.{ap}
 use mathlib.Core.Bool.{not}

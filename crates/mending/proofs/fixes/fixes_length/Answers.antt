@@ -1,7 +1,6 @@
 -- `fixes_length` meets its contract.
 use native.Mathlib.Omega.{arith}
 use Rattle.mending.proofs.Lengths.{within_if, fixes_size}
-use borrow.Author.Rules.{rules}
 use Rattle.mending.proofs.fixes.fixes_length.Goals as goal
 
 pub overflow_add-one : goal.overflow_add-one

@@ -1,6 +1,6 @@
 -- `put_fix` meets its contract: the numbers begin where `fix=` ended.
-use mathlib.Core.Path.{◌≡◌, ap}
-use mathlib.Core.List.{List, ◌++◌}
+use mathlib.Core.Path.{ap}
+use mathlib.Core.List.{List}
 use Prim.Native.Nat.{ℕ, ◌+◌, ◌≤◌}
 use native.Mathlib.Omega.{arith}
 use lib.ListN.{length, length-append}
@@ -8,7 +8,6 @@ use Rattle.format.specs.Bytes.{bytes, line_feed}
 use Rattle.writing.specs.Line.{pair}
 use Rattle.writing.proofs.Writing.{named, begins, room, both}
 use Rattle.mending.proofs.Lengths.{fix_is}
-use borrow.Author.Rules.{rules}
 use Rattle.mending.proofs.fixes.put_fix.Goals as goal
 
 pub put_bytes-at-requires : goal.put_bytes-at-requires

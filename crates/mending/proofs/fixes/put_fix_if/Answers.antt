@@ -1,10 +1,6 @@
 -- `put_fix_if` meets its contract.
 use mathlib.Core.Bool.{true}
-use Prim.Native.Nat.{◌≤◌}
-use lib.ListN.{length}
 use Rattle.writing.proofs.Writing.{nothing}
-use Rattle.salvaging.specs.Fixes.{fix_if}
-use borrow.Author.Rules.{rules}
 use Rattle.mending.proofs.fixes.put_fix_if.Goals as goal
 
 pub put_fix-requires : goal.put_fix-requires

@@ -1,5 +1,5 @@
 -- `put_fixes` meets its contract: each line begins where the line before it ended.
-use mathlib.Core.Path.{◌≡◌, ap}
+use mathlib.Core.Path.{ap}
 use mathlib.Core.List.{List, ◌++◌}
 use Prim.Native.Nat.{ℕ, ◌+◌, ◌≤◌}
 use native.Mathlib.Omega.{arith}
@@ -7,7 +7,6 @@ use lib.ListN.{length, length-append}
 use Rattle.salvaging.specs.Fixes.{fix_if}
 use Rattle.writing.proofs.Writing.{named, begins, room, both}
 use Rattle.mending.proofs.Lengths.{fixes_are}
-use borrow.Author.Rules.{rules}
 use Rattle.mending.proofs.fixes.put_fixes.Goals as goal
 
 pub put_fix_if-two-requires : goal.put_fix_if-two-requires

@@ -1,5 +1,4 @@
 -- `added_kept` meets its contract.
-use borrow.Author.Rules.{rules}
 use Rattle.mending.proofs.line.added_kept.Goals as goal
 
 pub returns : goal.returns

@@ -1,5 +1,4 @@
 -- `begun` meets its contract.
-use borrow.Author.Rules.{rules}
 use Rattle.mending.proofs.line.begun.Goals as goal
 
 pub returns : goal.returns

@@ -1,5 +1,4 @@
 -- `ended` meets its contract.
-use borrow.Author.Rules.{rules}
 use Rattle.mending.proofs.line.ended.Goals as goal
 
 pub returns : goal.returns

@@ -2,7 +2,6 @@
 use borrow.Author.Tests.{ne_eqb}
 use Rattle.format.specs.Bytes.{line_feed}
 use Rattle.mending.specs.Line.{kinds_at}
-use borrow.Author.Rules.{rules}
 use Rattle.mending.proofs.line.kinds_at.Goals as goal
 
 pub returns-then-c-eq10 : goal.returns-then-c-eq10

@@ -2,7 +2,6 @@
 use mathlib.Core.Path.{◌≡◌, sym, ◌∙◌}
 use mathlib.Core.Bool.{true, false}
 use Rattle.mending.specs.Line.{begun, kinds_last}
-use borrow.Author.Rules.{rules}
 use Rattle.mending.proofs.line.kinds_last.Goals as goal
 
 pub returns-then-begun : goal.returns-then-begun

@@ -1,5 +1,4 @@
 -- `kinds_of` meets its contract.
-use borrow.Author.Rules.{rules}
 use Rattle.mending.proofs.line.kinds_of.Goals as goal
 
 pub returns : goal.returns

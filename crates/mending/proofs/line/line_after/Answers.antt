@@ -5,7 +5,6 @@ use borrow.Author.Tests.{ne_eqb}
 use Rattle.format.specs.Bytes.{line_feed}
 use Rattle.salvaging.specs.Steps.{carriage_return, blank}
 use Rattle.mending.specs.Line.{line_after}
-use borrow.Author.Rules.{rules}
 use Rattle.mending.proofs.line.line_after.Goals as goal
 
 pub returns-then-c-eq10 : goal.returns-then-c-eq10

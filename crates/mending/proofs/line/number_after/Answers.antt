@@ -4,7 +4,6 @@ use native.Mathlib.Omega.{arith}
 use borrow.Author.Tests.{ne_eqb}
 use Rattle.format.specs.Bytes.{line_feed}
 use Rattle.mending.specs.Line.{number_after}
-use borrow.Author.Rules.{rules}
 use Rattle.mending.proofs.line.number_after.Goals as goal
 
 pub overflow_add-result : goal.overflow_add-result

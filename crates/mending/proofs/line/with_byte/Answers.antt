@@ -1,5 +1,4 @@
 -- `with_byte` meets its contract.
-use borrow.Author.Rules.{rules}
 use Rattle.mending.proofs.line.with_byte.Goals as goal
 
 pub returns : goal.returns

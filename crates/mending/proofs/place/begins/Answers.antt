@@ -3,7 +3,6 @@ use mathlib.Core.Path.{◌≡◌, sym, ◌∙◌}
 use mathlib.Core.Bool.{true, false}
 use borrow.Author.Tests.{ne_eqb}
 use Rattle.format.specs.Bytes.{digit_zero, is_digit}
-use borrow.Author.Rules.{rules}
 use Rattle.mending.proofs.place.begins.Goals as goal
 
 pub returns-then-c-eq48 : goal.returns-then-c-eq48

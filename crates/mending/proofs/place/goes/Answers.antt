@@ -2,7 +2,6 @@
 use mathlib.Core.Path.{◌≡◌, sym, ◌∙◌}
 use mathlib.Core.Bool.{true, false}
 use Rattle.mending.specs.Place.{is_zero}
-use borrow.Author.Rules.{rules}
 use Rattle.mending.proofs.place.goes.Goals as goal
 
 pub returns-then-is_zero : goal.returns-then-is_zero

@@ -2,7 +2,6 @@
 use mathlib.Core.Path.{◌≡◌, sym, ◌∙◌}
 use mathlib.Core.Bool.{true, false}
 use Rattle.mending.specs.Place.{opens}
-use borrow.Author.Rules.{rules}
 use Rattle.mending.proofs.place.holds.Goals as goal
 
 pub returns-then-opens : goal.returns-then-opens

@@ -1,7 +1,6 @@
 -- `in_key` meets its contract.
 use borrow.Author.Tests.{ne_eqb}
 use Rattle.format.specs.Bytes.{equals}
-use borrow.Author.Rules.{rules}
 use Rattle.mending.proofs.place.in_key.Goals as goal
 
 pub returns-then-c-eq61 : goal.returns-then-c-eq61

@@ -2,7 +2,6 @@
 use mathlib.Core.Path.{◌≡◌, sym, ◌∙◌}
 use mathlib.Core.Bool.{true, false}
 use Rattle.format.specs.Bytes.{is_digit}
-use borrow.Author.Rules.{rules}
 use Rattle.mending.proofs.place.in_run.Goals as goal
 
 pub returns-then-is_digit : goal.returns-then-is_digit

@@ -1,7 +1,6 @@
 -- `is_digit` meets its contract.
 use borrow.Author.Tests.{le-leb, lt-leb}
 use Rattle.format.specs.Bytes.{digit_zero}
-use borrow.Author.Rules.{rules}
 use Rattle.mending.proofs.place.is_digit.Goals as goal
 
 pub returns-then-c-ge48 : goal.returns-then-c-ge48

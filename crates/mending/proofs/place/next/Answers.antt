@@ -1,5 +1,4 @@
 -- `next` meets its contract.
-use borrow.Author.Rules.{rules}
 use Rattle.mending.proofs.place.next.Goals as goal
 
 pub returns-in-Key : goal.returns-in-Key

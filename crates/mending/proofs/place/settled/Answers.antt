@@ -1,6 +1,5 @@
 -- `settled` meets its contract.
 use borrow.Author.Tests.{ne_eqb}
-use borrow.Author.Rules.{rules}
 use Rattle.mending.proofs.place.settled.Goals as goal
 
 pub returns-then-blanks-eq0 : goal.returns-then-blanks-eq0

@@ -1,7 +1,6 @@
 -- `added_length` meets its contract.
 use native.Mathlib.Omega.{arith}
 use Rattle.mending.proofs.Lengths.{within_if, added_size}
-use borrow.Author.Rules.{rules}
 use Rattle.mending.proofs.text.added_length.Goals as goal
 
 pub overflow_add-result : goal.overflow_add-result

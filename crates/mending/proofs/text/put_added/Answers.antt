@@ -9,7 +9,6 @@ use Rattle.salvaging.specs.Steps.{blank}
 use Rattle.mending.specs.Line.{byte_if}
 use Rattle.writing.proofs.Writing.{named, begins, room, both}
 use Rattle.mending.proofs.Lengths.{blanks_size, at_most}
-use borrow.Author.Rules.{rules}
 use Rattle.mending.proofs.text.put_added.Goals as goal
 
 pub put_if-blanks_at-requires : goal.put_if-blanks_at-requires

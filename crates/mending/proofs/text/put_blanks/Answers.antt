@@ -1,14 +1,12 @@
 -- `put_blanks` meets its contract.
 use mathlib.Core.Path.{◌≡◌, refl, sym, ap, ◌∙◌}
-use Prim.Native.Nat.{ℕ, ◌-◌, ◌≤◌, ◌<◌}
+use Prim.Native.Nat.{ℕ, ◌-◌}
 use native.Mathlib.Numerals.{add-one}
 use native.Mathlib.Omega.{arith}
-use lib.ListN.{length, replicate, length-set}
+use lib.ListN.{replicate, length-set}
 use Rattle.salvaging.specs.Steps.{blank}
-use Rattle.writing.specs.Written.{Written}
 use Rattle.writing.proofs.Writing.{nothing, named, then_byte}
 use Rattle.mending.proofs.Lengths.{blanks_size, one_blank_more}
-use borrow.Author.Rules.{rules}
 use Rattle.mending.proofs.text.put_blanks.Goals as goal
 
 pub loop-i-init : goal.loop-i-init

@@ -5,7 +5,6 @@ use native.Mathlib.Omega.{arith}
 use lib.ListN.{length}
 use Rattle.writing.proofs.Writing.{nothing, then_byte}
 use Rattle.mending.specs.Line.{byte_if}
-use borrow.Author.Rules.{rules}
 use Rattle.mending.proofs.text.put_if.Goals as goal
 
 pub bounds-part-0 : goal.bounds-part-0

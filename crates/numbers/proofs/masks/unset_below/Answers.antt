@@ -3,7 +3,6 @@ use Prim.Native.Nat.{◌-◌, ◌^◌}
 use native.Mathlib.Omega.{arith}
 use lib.Bits.{and_le_r}
 use lib.Pow.{pow_pos}
-use borrow.Author.Rules.{rules}
 use Rattle.numbers.proofs.MaskLaws.{shifted_one}
 use Rattle.numbers.proofs.masks.unset_below.Goals as goal
 

@@ -1,5 +1,4 @@
 -- `with` meets its contract.
-use borrow.Author.Rules.{rules}
 use borrow.Author.Tests.{lt-ltb, le-ltb}
 use Rattle.numbers.specs.Masks.{width}
 use Rattle.numbers.proofs.MaskLaws.{shifted_one}

@@ -1,6 +1,5 @@
 -- `without` meets its contract: a bit that is set lies below the width.
 use mathlib.Core.Path.{sym, ◌∙◌}
-use borrow.Author.Rules.{rules}
 use Rattle.numbers.proofs.MaskLaws.{bit_below, shifted_one}
 use Rattle.numbers.proofs.masks.without.Goals as goal
 

@@ -3,7 +3,6 @@ use mathlib.Core.Path.{◌≡◌, sym, ◌∙◌}
 use Prim.Native.Nat.{◌*◌, ◌/◌}
 use native.Mathlib.Nat.{div-zero, zero-mul, div-le_self, lt_of_le_of_lt}
 use native.Mathlib.Omega.{arith}
-use borrow.Author.Rules.{rules}
 use borrow.Author.Tests.{le-leb, lt-leb}
 use Rattle.schedule.specs.Table as Rules
 use Rattle.numbers.proofs.Products.{product_fits}

@@ -1,6 +1,5 @@
 -- `phalandrix_plain_row` meets its contract: it tells what `plain_row` answers.
 use Rattle.sheet.proofs.ExportLaws.{told_row_call}
-use borrow.Author.Rules.{rules}
 use Rattle.plain.proofs.exports.phalandrix_plain_row.Goals as goal
 
 pub returns : goal.returns

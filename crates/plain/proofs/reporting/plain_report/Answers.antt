@@ -7,7 +7,6 @@ use Rattle.sheet.proofs.CallLaws.{refused_call}
 use Rattle.sheet.proofs.Admissions.{passes, is_refused}
 use Rattle.sheet.proofs.Reports.{passed_walkable, passed_few, refused_report}
 use Rattle.plainlaws.proofs.Reports.{passed_report}
-use borrow.Author.Rules.{rules}
 use Rattle.plain.proofs.reporting.plain_report.Goals as goal
 
 pub walked-requires : goal.walked-requires

@@ -1,5 +1,4 @@
 -- `end_by` meets its contract, case by case.
-use borrow.Author.Rules.{rules}
 use Rattle.plain.proofs.rowing.end_by.Goals as goal
 
 pub returns-in-Settled : goal.returns-in-Settled

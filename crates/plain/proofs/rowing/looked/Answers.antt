@@ -1,6 +1,5 @@
 -- `looked` meets its contract: call by call.
 use Rattle.plainlaws.specs.Rows.{look_of}
-use borrow.Author.Rules.{rules}
 use Rattle.plain.proofs.rowing.looked.Goals as goal
 
 pub returns : goal.returns

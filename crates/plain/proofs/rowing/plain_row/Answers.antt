@@ -8,7 +8,6 @@ use Rattle.sheet.proofs.RowTold.{told_refused, refused_told}
 use Rattle.plainlaws.specs.Rows.{look_of}
 use Rattle.plainlaws.proofs.TableLooks.{look_few}
 use Rattle.plainlaws.proofs.RowCalls.{passed_above, passed_near, passed_far, passed_stopped}
-use borrow.Author.Rules.{rules}
 use Rattle.plain.proofs.rowing.plain_row.Goals as goal
 
 pub returns-then-instant : goal.returns-then-instant

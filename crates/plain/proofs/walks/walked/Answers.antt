@@ -1,7 +1,6 @@
 -- `walked` meets its contract: the plan, the offsets and the largest offset are those of the table.
 use mathlib.Core.Path.{◌∙◌}
 use Rattle.plainlaws.specs.Walks.{walk_of_table}
-use borrow.Author.Rules.{rules}
 use Rattle.plain.proofs.walks.walked.Goals as goal
 
 pub walk_to-requires : goal.walk_to-requires

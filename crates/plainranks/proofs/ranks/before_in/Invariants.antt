@@ -1,9 +1,6 @@
-use mathlib.Core.Path.{◌≡◌, refl, sym, ap, ◌∙◌}
+use mathlib.Core.Path.{◌≡◌}
 use Prim.Native.Nat.{◌-◌, ◌≤◌}
-use native.Mathlib.Omega.{arith}
 use Rattle.ledger.specs.Ranks.{before_by}
-use Rattle.plainranks.proofs.RankLaws.{before_start, before_yes, before_no}
-use borrow.Author.Rules.{rules}
 use Rattle.plainranks.proofs.ranks.before_in.Given as goal
 
 abbrev pub invariant-loop-k : goal.invariant-loop-k

@@ -1,6 +1,5 @@
 -- `is_before` meets its contract, by the test.
 use borrow.Author.Tests.{eq-eqb, ne_eqb}
-use borrow.Author.Rules.{rules}
 use Rattle.plainranks.proofs.ranks.is_before.Goals as goal
 
 pub returns-then-d-deadline : goal.returns-then-d-deadline

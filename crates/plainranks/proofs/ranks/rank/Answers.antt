@@ -1,24 +1,19 @@
 -- `rank` meets its contract. The loop keeps: how many of the first m places' ready server jobs stand before.
-use mathlib.Core.Path.{◌≡◌, refl, sym, ap, ◌∙◌}
-use Prim.Native.Nat.{◌-◌, ◌≤◌}
+use Prim.Native.Nat.{◌-◌}
 use native.Mathlib.Omega.{arith}
-use lib.ListN.{get_or}
-use Rattle.ledger.specs.Entries.{instant_after}
-use Rattle.ledger.specs.Ranks.{rank_by}
 use Rattle.plainranks.proofs.RankLaws.{rank_start, rank_more, rank_end}
 use borrow.Author.Rules.{rules}
 use Rattle.plainranks.proofs.ranks.rank.Goals as goal
 
 pub loop-m-init : goal.loop-m-init
-loop-m-init c =  (search rules, rank_start c.args.offsets.now c.args.period.now c.args.level.now c.args.complete.now c.args.released.now c.args.i c.instant_after-deadline.result)
+loop-m-init c = (search rules, rank_start c.args.offsets.now c.args.period.now c.args.level.now c.args.complete.now c.args.released.now c.args.i c.instant_after-deadline.result)
 
 pub loop-m-preserved : goal.loop-m-preserved
-loop-m-preserved c =
-     (
-      omega (arith, c.loop-m-test.true),
-      rank_more c.args.offsets.now c.args.period.now c.args.level.now c.args.complete.now c.args.released.now c.args.i c.instant_after-deadline.result c.loop-m.m c.loop-m.invariant.1
-          c.ready_to-to.ensures c.before_in-before.ensures c.further-count.ensures,
-    )
+loop-m-preserved c = (
+  omega (arith, c.loop-m-test.true),
+  rank_more c.args.offsets.now c.args.period.now c.args.level.now c.args.complete.now c.args.released.now c.args.i c.instant_after-deadline.result c.loop-m.m c.loop-m.invariant.1
+      c.ready_to-to.ensures c.before_in-before.ensures c.further-count.ensures,
+)
 
 pub returns : goal.returns
 returns c =

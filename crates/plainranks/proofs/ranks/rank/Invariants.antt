@@ -1,11 +1,6 @@
-use mathlib.Core.Path.{◌≡◌, refl, sym, ap, ◌∙◌}
+use mathlib.Core.Path.{◌≡◌}
 use Prim.Native.Nat.{◌-◌, ◌≤◌}
-use native.Mathlib.Omega.{arith}
-use lib.ListN.{get_or}
-use Rattle.ledger.specs.Entries.{instant_after}
 use Rattle.ledger.specs.Ranks.{rank_by}
-use Rattle.plainranks.proofs.RankLaws.{rank_start, rank_more, rank_end}
-use borrow.Author.Rules.{rules}
 use Rattle.plainranks.proofs.ranks.rank.Given as goal
 
 abbrev pub invariant-loop-m : goal.invariant-loop-m

@@ -1,11 +1,7 @@
-use mathlib.Core.Path.{◌≡◌, refl, sym, ap, ◌∙◌}
-use mathlib.Core.Logic.{⊎_elim}
+use mathlib.Core.Path.{◌≡◌}
 use Prim.Native.Nat.{◌-◌, ◌≤◌, ◌<◌}
-use native.Mathlib.Omega.{arith}
 use Rattle.window.specs.Entries.{places}
 use Rattle.ledger.specs.Ranks.{found_to}
-use Rattle.plainranks.proofs.RankLaws.{place_start, place_yes, place_no}
-use borrow.Author.Rules.{rules}
 use Rattle.plainranks.proofs.row.found.Given as goal
 
 abbrev pub invariant-loop-i : goal.invariant-loop-i

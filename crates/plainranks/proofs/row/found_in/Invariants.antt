@@ -1,10 +1,7 @@
-use mathlib.Core.Path.{◌≡◌, refl, sym, ap, ◌∙◌}
+use mathlib.Core.Path.{◌≡◌}
 use Prim.Native.Nat.{◌-◌, ◌≤◌}
-use native.Mathlib.Omega.{arith}
 use lib.ListN.{get_or}
 use Rattle.ledger.specs.Ranks.{found_by}
-use Rattle.plainranks.proofs.RankLaws.{found_start, found_yes, found_no, found_end}
-use borrow.Author.Rules.{rules}
 use Rattle.plainranks.proofs.row.found_in.Given as goal
 
 abbrev pub invariant-loop-k : goal.invariant-loop-k

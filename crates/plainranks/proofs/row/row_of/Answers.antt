@@ -1,16 +1,13 @@
 -- `row_of` meets its contract. The loop keeps: the lines of the first r ranks.
-use mathlib.Core.Path.{◌≡◌, refl, sym, ap, ◌∙◌}
-use mathlib.Core.Logic.{⊎_elim}
-use Prim.Native.Nat.{◌-◌, ◌≤◌}
+use mathlib.Core.Path.{◌∙◌}
+use Prim.Native.Nat.{◌-◌}
 use native.Mathlib.Omega.{arith}
-use Rattle.ledger.specs.Showing.{row_to}
 use Rattle.ledger.proofs.RowLaws.{row_start, row_more, row_same, row_end}
-use borrow.Author.Rules.{rules}
 use Rattle.plainranks.proofs.row.row_of.Goals as goal
 use Rattle.plainranks.proofs.row.row_of.Goals.{then-x-gt0, else-x-gt0}
 
 pub loop-r-init : goal.loop-r-init
-loop-r-init c =  (omega arith, rw c.blank-row.ensures (omega arith), row_start c.args.plan c.args.offsets c.args.l c.blank-row.ensures)
+loop-r-init c = (omega arith, rw c.blank-row.ensures (omega arith), row_start c.args.plan c.args.offsets c.args.l c.blank-row.ensures)
 
 pub overflow_cast-r : goal.overflow_cast-r
 overflow_cast-r c = omega (arith, c.loop-r-test.true, c.smaller-p.ensures)
@@ -53,8 +50,10 @@ loop-r-preserved c =
     let found = c.found-x.ensures.0 in (
       omega (arith, c.loop-r-test.true),
       elim c.if-x-gt0.branch [ then-x-gt0 w ↦ rw w.row-is (omega (arith, c.loop-r.invariant.1)) | else-x-gt0 w ↦ rw w.row-is (omega (arith, c.loop-r.invariant.1)) ],
-      elim c.if-x-gt0.branch [ then-x-gt0 w ↦ w.row-is ∙ row_more c.args.plan c.args.offsets c.args.l c.loop-r.r c.loop-r.invariant.2 c.smaller-n.ensures found w.if-x-gt0.true w.slot-s.ensures.0 w.run_of-line.ensures
-          | else-x-gt0 w ↦ w.row-is ∙ row_same c.args.plan c.args.offsets c.args.l c.loop-r.r c.loop-r.invariant.2 c.smaller-n.ensures found w.if-x-gt0.false ],
+      elim c.if-x-gt0.branch [
+        | then-x-gt0 w ↦ w.row-is ∙ row_more c.args.plan c.args.offsets c.args.l c.loop-r.r c.loop-r.invariant.2 c.smaller-n.ensures found w.if-x-gt0.true w.slot-s.ensures.0 w.run_of-line.ensures
+        | else-x-gt0 w ↦ w.row-is ∙ row_same c.args.plan c.args.offsets c.args.l c.loop-r.r c.loop-r.invariant.2 c.smaller-n.ensures found w.if-x-gt0.false
+      ],
     )
 
 pub returns : goal.returns

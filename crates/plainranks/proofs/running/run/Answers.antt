@@ -1,13 +1,12 @@
 -- `run` meets its contract. The loop keeps: the first i places have run.
-use mathlib.Core.Path.{◌≡◌, refl, sym, ap, ◌∙◌}
-use Prim.Native.Nat.{◌-◌, ◌≤◌}
+use Prim.Native.Nat.{◌-◌}
 use native.Mathlib.Omega.{arith}
-use Rattle.plainranks.proofs.RankLaws.{ran_at, ran_start, ran_more, ran_all}
+use Rattle.plainranks.proofs.RankLaws.{ran_start, ran_more, ran_all}
 use borrow.Author.Rules.{rules}
 use Rattle.plainranks.proofs.running.run.Goals as goal
 
 pub loop-i-init : goal.loop-i-init
-loop-i-init c =  (search rules, ran_start c.args.plan c.args.offsets c.args.l c.smaller-n.result)
+loop-i-init c = (search rules, ran_start c.args.plan c.args.offsets c.args.l c.smaller-n.result)
 
 pub run_server-requires : goal.run_server-requires
 run_server-requires c =

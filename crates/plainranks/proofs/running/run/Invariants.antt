@@ -1,8 +1,6 @@
-use mathlib.Core.Path.{◌≡◌, refl, sym, ap, ◌∙◌}
+use mathlib.Core.Path.{◌≡◌}
 use Prim.Native.Nat.{◌-◌, ◌≤◌}
-use native.Mathlib.Omega.{arith}
-use Rattle.plainranks.proofs.RankLaws.{ran_at, ran_start, ran_more, ran_all}
-use borrow.Author.Rules.{rules}
+use Rattle.plainranks.proofs.RankLaws.{ran_at}
 use Rattle.plainranks.proofs.running.run.Given as goal
 
 abbrev pub invariant-loop-i : goal.invariant-loop-i

@@ -1,10 +1,7 @@
-use mathlib.Core.Path.{◌≡◌, refl, sym, ap, ◌∙◌}
+use mathlib.Core.Path.{◌≡◌}
 use Prim.Native.Nat.{◌-◌, ◌≤◌}
-use native.Mathlib.Omega.{arith}
 use lib.ListN.{get_or}
 use Rattle.ledger.specs.Ranks.{ran_by}
-use Rattle.plainranks.proofs.RankLaws.{run_start, run_yes, run_no, run_end}
-use borrow.Author.Rules.{rules}
 use Rattle.plainranks.proofs.running.run_server.Given as goal
 
 abbrev pub invariant-loop-k : goal.invariant-loop-k

@@ -1,7 +1,7 @@
 -- `same_numbers` meets its contract. The loop keeps: the first i are the same.
-use mathlib.Core.Path.{◌≡◌, refl, sym, ap, ◌∙◌}
+use mathlib.Core.Path.{refl, ◌∙◌}
 use mathlib.Core.Bool.{Bool, true}
-use Prim.Native.Nat.{ℕ, ◌-◌, ◌≤◌}
+use Prim.Native.Nat.{ℕ, ◌-◌}
 use native.Mathlib.Omega.{arith}
 use lib.Dec.{eqb}
 use lib.ListN.{get_or}
@@ -17,10 +17,10 @@ unfolding all_below
 loop-i-init c = (search rules, refl)
 
 pub returns-then-x-i : goal.returns-then-x-i
-returns-then-x-i c =  one_differs ((let it : ℕ → Bool = λ i. eqb (get_or c.args.x.now i 0) (get_or c.args.y.now i 0) in it)) _ refl c.loop-i.i (omega arith) (ne_eqb _ _ c.if-x-i.true)
+returns-then-x-i c = one_differs ((let it : ℕ → Bool = λ i. eqb (get_or c.args.x.now i 0) (get_or c.args.y.now i 0) in it)) _ refl c.loop-i.i (omega arith) (ne_eqb _ _ c.if-x-i.true)
 
 pub loop-i-preserved : goal.loop-i-preserved
-loop-i-preserved c =  (search rules, c.loop-i.invariant.1 ∙ all_yes ((let it : ℕ → Bool = λ i. eqb (get_or c.args.x.now i 0) (get_or c.args.y.now i 0) in it)) c.loop-i.i (eq-eqb _ _ c.if-x-i.false))
+loop-i-preserved c = (search rules, c.loop-i.invariant.1 ∙ all_yes ((let it : ℕ → Bool = λ i. eqb (get_or c.args.x.now i 0) (get_or c.args.y.now i 0) in it)) c.loop-i.i (eq-eqb _ _ c.if-x-i.false))
 
 pub returns : goal.returns
-returns c =  each_same ((let it : ℕ → Bool = λ i. eqb (get_or c.args.x.now i 0) (get_or c.args.y.now i 0) in it)) _ refl _ c.loop-i.invariant.1 c.loop-i.invariant.0 c.loop-i-test.false
+returns c = each_same ((let it : ℕ → Bool = λ i. eqb (get_or c.args.x.now i 0) (get_or c.args.y.now i 0) in it)) _ refl _ c.loop-i.invariant.1 c.loop-i.invariant.0 c.loop-i-test.false

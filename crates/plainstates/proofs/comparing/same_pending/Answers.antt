@@ -1,7 +1,7 @@
 -- `same_pending` meets its contract. The loop keeps: the first d are the same.
-use mathlib.Core.Path.{◌≡◌, refl, sym, ap, ◌∙◌}
+use mathlib.Core.Path.{refl, sym, ap, ◌∙◌}
 use mathlib.Core.Bool.{Bool, true}
-use Prim.Native.Nat.{ℕ, ◌+◌, ◌*◌, ◌-◌, ◌≤◌}
+use Prim.Native.Nat.{ℕ, ◌+◌, ◌*◌, ◌-◌}
 use native.Mathlib.Omega.{arith}
 use lib.Dec.{eqb}
 use lib.ListN.{get_or}
@@ -23,12 +23,11 @@ returns-then-x-e c =
     (ap ((let it : ℕ → Bool = λ k. eqb (get_or c.args.x.now k 0) (get_or c.args.y.now k 0) in it)) (sym c.entry-e.ensures.0) ∙ ne_eqb _ _ c.if-x-e.true)
 
 pub loop-d-preserved : goal.loop-d-preserved
-loop-d-preserved c =
-     (
-      search rules,
-      c.loop-d.invariant.1
-          ∙ all_yes ((let it : ℕ → Bool = λ d. (let it : ℕ → Bool = λ k. eqb (get_or c.args.x.now k 0) (get_or c.args.y.now k 0) in it) (c.args.i * room + d) in it)) c.loop-d.d (ap ((let it : ℕ → Bool = λ k. eqb (get_or c.args.x.now k 0) (get_or c.args.y.now k 0) in it)) (sym c.entry-e.ensures.0) ∙ eq-eqb _ _ c.if-x-e.false),
-    )
+loop-d-preserved c = (
+  search rules,
+  c.loop-d.invariant.1
+      ∙ all_yes ((let it : ℕ → Bool = λ d. (let it : ℕ → Bool = λ k. eqb (get_or c.args.x.now k 0) (get_or c.args.y.now k 0) in it) (c.args.i * room + d) in it)) c.loop-d.d (ap ((let it : ℕ → Bool = λ k. eqb (get_or c.args.x.now k 0) (get_or c.args.y.now k 0) in it)) (sym c.entry-e.ensures.0) ∙ eq-eqb _ _ c.if-x-e.false),
+)
 
 pub returns : goal.returns
-returns c =  each_same ((let it : ℕ → Bool = λ d. (let it : ℕ → Bool = λ k. eqb (get_or c.args.x.now k 0) (get_or c.args.y.now k 0) in it) (c.args.i * room + d) in it)) _ c.smaller-most.ensures _ c.loop-d.invariant.1 c.loop-d.invariant.0 c.loop-d-test.false
+returns c = each_same ((let it : ℕ → Bool = λ d. (let it : ℕ → Bool = λ k. eqb (get_or c.args.x.now k 0) (get_or c.args.y.now k 0) in it) (c.args.i * room + d) in it)) _ c.smaller-most.ensures _ c.loop-d.invariant.1 c.loop-d.invariant.0 c.loop-d-test.false

@@ -1,14 +1,9 @@
-use mathlib.Core.Path.{◌≡◌, refl, sym, ap, ◌∙◌}
-use mathlib.Core.Bool.{Bool, true}
+use mathlib.Core.Path.{◌≡◌}
+use mathlib.Core.Bool.{true}
 use Prim.Native.Nat.{ℕ, ◌-◌, ◌≤◌}
-use native.Mathlib.Omega.{arith}
 use lib.ListN.{get_or}
-use borrow.Author.Tests.{not-true, not-false}
 use Rattle.window.specs.Loops.{all_below}
-use Rattle.window.proofs.LoopLaws.{all_yes}
 use Rattle.ledger.specs.Forming.{same_pending}
-use Rattle.plainstates.proofs.StateLaws.{one_differs, each_same}
-use borrow.Author.Rules.{rules}
 use Rattle.plainstates.proofs.comparing.same_slots.Given as goal
 
 abbrev pub invariant-loop-i : goal.invariant-loop-i

@@ -1,6 +1,5 @@
 -- `behind_of` meets its contract, by the test.
 use borrow.Author.Tests.{eq-eqb, ne_eqb}
-use borrow.Author.Rules.{rules}
 use Rattle.plainstates.proofs.forming.behind_of.Goals as goal
 
 pub returns-then-j-eq0 : goal.returns-then-j-eq0

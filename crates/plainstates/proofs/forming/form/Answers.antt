@@ -1,15 +1,13 @@
 -- `form` meets its contract. The loop keeps: the state of the first i places.
-use mathlib.Core.Path.{◌≡◌, refl, sym, ap, ◌∙◌}
-use Prim.Native.Nat.{◌-◌, ◌≤◌, ◌<◌}
+use Prim.Native.Nat.{◌-◌, ◌<◌}
 use native.Mathlib.Omega.{arith}
 use Rattle.window.specs.Entries.{places}
-use Rattle.ledger.specs.Forming.{form_to}
 use Rattle.plainstates.proofs.StateLaws.{form_start, form_more, form_all}
 use borrow.Author.Rules.{rules}
 use Rattle.plainstates.proofs.forming.form.Goals as goal
 
 pub loop-i-init : goal.loop-i-init
-loop-i-init c =  (search rules, form_start c.args.plan c.args.offsets c.args.l c.args.t c.blank_state-f.ensures)
+loop-i-init c = (search rules, form_start c.args.plan c.args.offsets c.args.l c.args.t c.blank_state-f.ensures)
 
 pub offset_bounds-l-i : goal.offset_bounds-l-i
 offset_bounds-l-i c = omega (arith, (let it : c.loop-i.i < places = omega (arith, c.loop-i-test.true, c.smaller-n.ensures) in it))
@@ -87,12 +85,11 @@ pub loop-i-smaller : goal.loop-i-smaller
 loop-i-smaller c = omega (arith, c.loop-i-test.true)
 
 pub loop-i-preserved : goal.loop-i-preserved
-loop-i-preserved c =
-     (
-      omega (arith, c.loop-i-test.true),
-      form_more c.args.plan c.args.offsets c.args.l c.args.t c.loop-i.i c.loop-i.invariant.1 c.phase_of.ensures c.less.ensures c.less-in-loop-i.ensures c.less-count.ensures c.wide-budget.ensures
-          c.form_left.ensures c.form_behind.ensures,
-    )
+loop-i-preserved c = (
+  omega (arith, c.loop-i-test.true),
+  form_more c.args.plan c.args.offsets c.args.l c.args.t c.loop-i.i c.loop-i.invariant.1 c.phase_of.ensures c.less.ensures c.less-in-loop-i.ensures c.less-count.ensures c.wide-budget.ensures
+      c.form_left.ensures c.form_behind.ensures,
+)
 
 pub returns : goal.returns
 returns c =

@@ -1,10 +1,6 @@
-use mathlib.Core.Path.{◌≡◌, refl, sym, ap, ◌∙◌}
-use Prim.Native.Nat.{◌-◌, ◌≤◌, ◌<◌}
-use native.Mathlib.Omega.{arith}
-use Rattle.window.specs.Entries.{places}
+use mathlib.Core.Path.{◌≡◌}
+use Prim.Native.Nat.{◌-◌, ◌≤◌}
 use Rattle.ledger.specs.Forming.{form_to}
-use Rattle.plainstates.proofs.StateLaws.{form_start, form_more, form_all}
-use borrow.Author.Rules.{rules}
 use Rattle.plainstates.proofs.forming.form.Given as goal
 
 abbrev pub invariant-loop-i : goal.invariant-loop-i

@@ -1,9 +1,6 @@
-use mathlib.Core.Path.{◌≡◌, refl, sym, ap, ◌∙◌}
+use mathlib.Core.Path.{◌≡◌}
 use Prim.Native.Nat.{◌-◌, ◌≤◌}
-use native.Mathlib.Omega.{arith}
 use Rattle.ledger.specs.Forming.{behind_by}
-use Rattle.plainstates.proofs.StateLaws.{behind_start, behind_more, all_written}
-use borrow.Author.Rules.{rules}
 use Rattle.plainstates.proofs.forming.form_behind.Given as goal
 
 abbrev pub invariant-loop-d : goal.invariant-loop-d

@@ -1,7 +1,6 @@
 -- `phase_of` meets its contract, by the test.
 use borrow.Author.Tests.{eq-eqb, ne_eqb}
 use native.Mathlib.Nat.{pos_of_ne-zero}
-use borrow.Author.Rules.{rules}
 use Rattle.plainstates.proofs.forming.phase_of.Goals as goal
 
 pub nonzero_rem-result : goal.nonzero_rem-result

@@ -1,7 +1,7 @@
 -- `backlogged` meets its contract. The loop keeps: none of the first i servers is overfull.
-use mathlib.Core.Path.{◌≡◌, refl, sym, ap, ◌∙◌}
+use mathlib.Core.Path.{refl, sym, ◌∙◌}
 use mathlib.Core.Bool.{Bool, false}
-use Prim.Native.Nat.{ℕ, ◌-◌, ◌≤◌}
+use Prim.Native.Nat.{ℕ, ◌-◌}
 use native.Mathlib.Nat.{le_antisymm}
 use lib.ListN.{get_or}
 use Rattle.window.specs.Loops.{some_below}
@@ -20,9 +20,11 @@ returns-then-overfull c =
     overfull (get_or c.args.released.now i 0) (get_or c.args.complete.now i 0) (get_or c.args.finished.now i 0) (get_or c.args.room.now i 0) in it)) _ c.loop-i.i c.loop-i-test.true (sym c.overfull.ensures ∙ c.if-overfull.true)
 
 pub loop-i-preserved : goal.loop-i-preserved
-loop-i-preserved c =
-    (search rules, c.loop-i.invariant.1 ∙ some_no ((let it : ℕ → Bool = λ i.
-    overfull (get_or c.args.released.now i 0) (get_or c.args.complete.now i 0) (get_or c.args.finished.now i 0) (get_or c.args.room.now i 0) in it)) c.loop-i.i (sym c.overfull.ensures ∙ c.if-overfull.false))
+loop-i-preserved c = (
+  search rules,
+  c.loop-i.invariant.1 ∙ some_no ((let it : ℕ → Bool = λ i.
+      overfull (get_or c.args.released.now i 0) (get_or c.args.complete.now i 0) (get_or c.args.finished.now i 0) (get_or c.args.room.now i 0) in it)) c.loop-i.i (sym c.overfull.ensures ∙ c.if-overfull.false),
+)
 
 pub returns : goal.returns
 returns c = rw (le_antisymm c.loop-i.invariant.0 c.loop-i-test.false) at c.loop-i.invariant.1

@@ -1,12 +1,9 @@
-use mathlib.Core.Path.{◌≡◌, refl, sym, ap, ◌∙◌}
-use mathlib.Core.Bool.{Bool, false}
+use mathlib.Core.Path.{◌≡◌}
+use mathlib.Core.Bool.{false}
 use Prim.Native.Nat.{ℕ, ◌-◌, ◌≤◌}
-use native.Mathlib.Nat.{le_antisymm}
 use lib.ListN.{get_or}
 use Rattle.window.specs.Loops.{some_below}
-use Rattle.window.proofs.LoopLaws.{some_found, some_no}
 use Rattle.ledger.specs.Releasing.{overfull}
-use borrow.Author.Rules.{rules}
 use Rattle.plainsteps.proofs.backlog.backlogged.Given as goal
 
 abbrev pub invariant-loop-i : goal.invariant-loop-i

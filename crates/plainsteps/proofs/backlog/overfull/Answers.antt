@@ -3,7 +3,6 @@ use native.Mathlib.Omega.{arith}
 use Prim.Native.Nat.{◌-◌}
 use borrow.Author.Tests.{lt-ltb, le-ltb, eq-eqb, ne_eqb}
 use Rattle.schedule.specs.Limits as Limits
-use borrow.Author.Rules.{rules}
 use Rattle.plainsteps.proofs.backlog.overfull.Goals as goal
 
 pub returns-then-less-gt-PENDING : goal.returns-then-less-gt-PENDING

@@ -1,14 +1,13 @@
 -- `finish` meets its contract. The loop keeps: the first i places are finished.
-use mathlib.Core.Path.{◌≡◌, refl, sym, ap, ◌∙◌}
-use Prim.Native.Nat.{◌-◌, ◌≤◌}
+use mathlib.Core.Path.{◌∙◌}
+use Prim.Native.Nat.{◌-◌}
 use native.Mathlib.Omega.{arith}
-use Rattle.ledger.specs.Finishing.{finish_to}
 use Rattle.plainsteps.proofs.StepLaws.{finish_more, finish_none, finish_all}
 use borrow.Author.Rules.{rules}
 use Rattle.plainsteps.proofs.finishing.finish.Goals as goal
 
 pub loop-i-init : goal.loop-i-init
-loop-i-init c =  (search rules, finish_none c.args.plan c.args.offsets c.args.l c.args.t)
+loop-i-init c = (search rules, finish_none c.args.plan c.args.offsets c.args.l c.args.t)
 
 pub loop-i-preserved : goal.loop-i-preserved
 loop-i-preserved c =

@@ -1,9 +1,6 @@
-use mathlib.Core.Path.{◌≡◌, refl, sym, ap, ◌∙◌}
+use mathlib.Core.Path.{◌≡◌}
 use Prim.Native.Nat.{◌-◌, ◌≤◌}
-use native.Mathlib.Omega.{arith}
 use Rattle.ledger.specs.Finishing.{finish_to}
-use Rattle.plainsteps.proofs.StepLaws.{finish_more, finish_none, finish_all}
-use borrow.Author.Rules.{rules}
 use Rattle.plainsteps.proofs.finishing.finish.Given as goal
 
 abbrev pub invariant-loop-i : goal.invariant-loop-i

@@ -1,9 +1,6 @@
-use mathlib.Core.Path.{◌≡◌, refl, sym, ap, ◌∙◌}
+use mathlib.Core.Path.{◌≡◌}
 use Prim.Native.Nat.{◌-◌, ◌≤◌}
-use native.Mathlib.Omega.{arith}
 use Rattle.ledger.specs.Finishing.{done_by}
-use Rattle.plainsteps.proofs.StepLaws.{done_start, done_full, done_same}
-use borrow.Author.Rules.{rules}
 use Rattle.plainsteps.proofs.finishing.finish_server.Given as goal
 
 abbrev pub invariant-loop-k : goal.invariant-loop-k

@@ -1,9 +1,8 @@
 -- `response_of` meets its contract, by the test.
-use mathlib.Core.Path.{◌≡◌, refl, sym, ap, ◌∙◌}
+use mathlib.Core.Path.{◌≡◌, ap, ◌∙◌}
 use Prim.Native.Nat.{◌-◌}
 use native.Mathlib.Omega.{arith}
 use Rattle.ledger.specs.Entries.{instant_after}
-use borrow.Author.Rules.{rules}
 use Rattle.plainsteps.proofs.finishing.response_of.Goals as goal
 
 pub returns-then-now-release : goal.returns-then-now-release

@@ -1,7 +1,5 @@
 -- `with_one` meets its contract: call by call, and by the test.
-use mathlib.Core.Path.{◌≡◌, refl, sym, ap, ◌∙◌}
 use borrow.Author.Tests.{eq-eqb, ne_eqb}
-use borrow.Author.Rules.{rules}
 use Rattle.plainsteps.proofs.finishing.with_one.Goals as goal
 
 pub returns-then-j-eq0 : goal.returns-then-j-eq0

@@ -1,7 +1,6 @@
 -- `instant_after` meets its contract: the product and the sum fit 64 bits.
 use Rattle.numbers.proofs.Products.{product_fits}
 use Rattle.plainsteps.proofs.StepLaws.{sum_fits}
-use borrow.Author.Rules.{rules}
 use Rattle.plainsteps.proofs.instants.instant_after.Goals as goal
 
 pub overflow_mul-result : goal.overflow_mul-result

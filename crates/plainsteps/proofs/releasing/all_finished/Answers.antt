@@ -1,10 +1,9 @@
 -- `all_finished` meets its contract. The loop keeps: the answer for the whole mask is that for what is left of it, and `left` counts its ones;
 -- each turn takes the lowest off.
-use mathlib.Core.Path.{◌≡◌, refl, sym, ap, ◌∙◌}
-use Prim.Native.Nat.{ℕ, ◌^◌, ◌<◌}
+use mathlib.Core.Path.{refl, sym, ap, ◌∙◌}
+use Prim.Native.Nat.{ℕ}
 use native.Mathlib.Omega.{arith}
 use borrow.Author.Rules.{rules}
-use Rattle.numbers.specs.Masks.{width, ones}
 use Rattle.numbers.proofs.Counts.{ones_without, some_set, none_set}
 use Rattle.ledger.specs.Releasing.{all_finished}
 use Rattle.plainsteps.proofs.StepLaws.{finished_none, finished_no, finished_yes, low_place, low_set}

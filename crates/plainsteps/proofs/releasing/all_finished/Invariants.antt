@@ -1,11 +1,7 @@
-use mathlib.Core.Path.{◌≡◌, refl, sym, ap, ◌∙◌}
-use Prim.Native.Nat.{ℕ, ◌^◌, ◌<◌}
-use native.Mathlib.Omega.{arith}
-use borrow.Author.Rules.{rules}
+use mathlib.Core.Path.{◌≡◌}
+use Prim.Native.Nat.{◌^◌, ◌<◌}
 use Rattle.numbers.specs.Masks.{width, ones}
-use Rattle.numbers.proofs.Counts.{ones_without, some_set, none_set}
 use Rattle.ledger.specs.Releasing.{all_finished}
-use Rattle.plainsteps.proofs.StepLaws.{finished_none, finished_no, finished_yes, low_place, low_set}
 use Rattle.plainsteps.proofs.releasing.all_finished.Given as goal
 
 abbrev pub invariant-loop-left : goal.invariant-loop-left

@@ -1,6 +1,5 @@
 -- `is_due` meets its contract, by the test.
 use borrow.Author.Tests.{eq-eqb, ne_eqb}
-use borrow.Author.Rules.{rules}
 use Rattle.plainsteps.proofs.releasing.is_due.Goals as goal
 
 pub returns-then-after-eq0 : goal.returns-then-after-eq0

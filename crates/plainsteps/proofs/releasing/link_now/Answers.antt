@@ -1,6 +1,5 @@
 -- `link_now` meets its contract, by the test.
-use mathlib.Core.Path.{◌≡◌, refl, sym, ap, ◌∙◌}
-use borrow.Author.Rules.{rules}
+use mathlib.Core.Path.{sym, ◌∙◌}
 use Rattle.plainsteps.proofs.releasing.link_now.Goals as goal
 
 pub returns-then-is_due : goal.returns-then-is_due

@@ -1,6 +1,5 @@
 -- `linked_after` meets its contract, by the test.
 use borrow.Author.Tests.{eq-eqb, ne_eqb}
-use borrow.Author.Rules.{rules}
 use Rattle.plainsteps.proofs.releasing.linked_after.Goals as goal
 
 pub returns-then-new-eq0 : goal.returns-then-new-eq0

@@ -1,9 +1,6 @@
-use mathlib.Core.Path.{◌≡◌, refl, sym, ap, ◌∙◌}
-use mathlib.Core.Logic.{⊎_elim}
+use mathlib.Core.Path.{◌≡◌}
 use Prim.Native.Nat.{◌-◌, ◌≤◌}
 use Rattle.ledger.specs.Releasing.{release_to}
-use Rattle.plainsteps.proofs.StepLaws.{release_yes, release_no, release_none, release_all}
-use borrow.Author.Rules.{rules}
 use Rattle.plainsteps.proofs.releasing.release.Given as goal
 
 abbrev pub invariant-loop-i : goal.invariant-loop-i

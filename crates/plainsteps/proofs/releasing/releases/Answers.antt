@@ -1,5 +1,4 @@
 -- `releases` meets its contract.
-use borrow.Author.Rules.{rules}
 use Rattle.plainsteps.proofs.releasing.releases.Goals as goal
 
 pub returns : goal.returns

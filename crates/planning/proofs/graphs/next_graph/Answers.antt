@@ -1,6 +1,5 @@
 -- `next_graph` meets its contract: by the two tests.
 use mathlib.Core.Path.{◌≡◌, sym, ◌∙◌}
-use borrow.Author.Rules.{rules}
 use borrow.Author.Tests.{eq-eqb, ne_eqb, lt-ltb, le-ltb}
 use Rattle.planning.specs.Graphs.{number_in}
 use Rattle.planning.proofs.graphs.next_graph.Goals as goal

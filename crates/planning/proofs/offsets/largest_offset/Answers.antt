@@ -1,9 +1,8 @@
 -- `largest_offset` meets its contract. The loop's invariant: the largest offset of the first g graphs.
 use mathlib.Core.Path.{◌≡◌, refl, ap, ◌∙◌}
-use Prim.Native.Nat.{◌-◌, ◌≤◌}
+use Prim.Native.Nat.{◌-◌}
 use native.Mathlib.Numerals.{add-one}
 use native.Mathlib.Omega.{arith}
-use borrow.Author.Rules.{rules}
 use Rattle.planning.specs.Offsets.{largest_to}
 use Rattle.planning.proofs.offsets.largest_offset.Goals as goal
 

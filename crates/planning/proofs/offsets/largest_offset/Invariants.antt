@@ -1,8 +1,5 @@
-use mathlib.Core.Path.{◌≡◌, refl, ap, ◌∙◌}
+use mathlib.Core.Path.{◌≡◌}
 use Prim.Native.Nat.{◌-◌, ◌≤◌}
-use native.Mathlib.Numerals.{add-one}
-use native.Mathlib.Omega.{arith}
-use borrow.Author.Rules.{rules}
 use Rattle.planning.specs.Offsets.{largest_to}
 use Rattle.planning.proofs.offsets.largest_offset.Given as goal
 

@@ -1,10 +1,8 @@
 -- `offsets_of` meets its contract. The loop's invariant: the first i offsets are at their places, and g is the graph of place i.
 use mathlib.Core.Path.{◌≡◌, refl, ap, ◌∙◌}
-use Prim.Native.Nat.{◌+◌, ◌-◌, ◌≤◌, ◌<◌}
+use Prim.Native.Nat.{◌+◌, ◌-◌}
 use native.Mathlib.Numerals.{add-one}
 use native.Mathlib.Omega.{arith}
-use borrow.Author.Rules.{rules}
-use Rattle.schedule.specs.Limits as Limits
 use Rattle.window.specs.Loops.{replaced}
 use Rattle.planning.specs.Graphs.{graph_to}
 use Rattle.planning.specs.Offsets.{offsets_to}

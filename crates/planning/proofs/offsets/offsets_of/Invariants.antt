@@ -1,13 +1,8 @@
-use mathlib.Core.Path.{◌≡◌, refl, ap, ◌∙◌}
-use Prim.Native.Nat.{◌+◌, ◌-◌, ◌≤◌, ◌<◌}
-use native.Mathlib.Numerals.{add-one}
-use native.Mathlib.Omega.{arith}
-use borrow.Author.Rules.{rules}
+use mathlib.Core.Path.{◌≡◌}
+use Prim.Native.Nat.{◌-◌, ◌≤◌, ◌<◌}
 use Rattle.schedule.specs.Limits as Limits
-use Rattle.window.specs.Loops.{replaced}
 use Rattle.planning.specs.Graphs.{graph_to}
 use Rattle.planning.specs.Offsets.{offsets_to}
-use Rattle.planning.proofs.GraphLaws.{graph_in_lem, graph_next}
 use Rattle.planning.proofs.offsets.offsets_of.Given as goal
 
 abbrev pub invariant-loop-i : goal.invariant-loop-i

@@ -2,14 +2,13 @@
 -- The measure is how many are left.
 use mathlib.Core.Path.{◌≡◌, ap, ◌∙◌}
 use mathlib.Core.Bool.{true}
-use Prim.Native.Nat.{◌+◌, ◌<◌, ◌^◌}
+use Prim.Native.Nat.{◌+◌, ◌<◌}
 use native.Mathlib.Omega.{arith}
 use lib.Pow.{pow_pos}
-use borrow.Author.Rules.{rules}
-use Rattle.numbers.specs.Masks.{width, bit, with, without, ones, lowest}
+use Rattle.numbers.specs.Masks.{width, bit, without, ones, lowest}
 use Rattle.numbers.proofs.Counts.{ones_without}
 use Rattle.numbers.proofs.MaskLaws.{no_bit, lowest_below, lowest_set}
-use Rattle.planning.proofs.PlaceLaws.{Halfway, with_fits, without_fits, places_none, one_placed, all_placed}
+use Rattle.planning.proofs.PlaceLaws.{with_fits, without_fits, places_none, one_placed, all_placed}
 use Rattle.planning.proofs.places.at_places.Goals as goal
 
 pub returns-then-first-ge-ALL_NODES_TO : goal.returns-then-first-ge-ALL_NODES_TO

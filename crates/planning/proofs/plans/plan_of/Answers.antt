@@ -1,11 +1,9 @@
 -- `plan_of` meets its contract. The loop's invariant: the first i nodes are at their places, and g is the graph of place i.
 use mathlib.Core.Path.{◌≡◌, refl, ap, ◌∙◌}
-use Prim.Native.Nat.{ℕ, ◌+◌, ◌-◌, ◌≤◌, ◌<◌}
+use Prim.Native.Nat.{ℕ, ◌+◌, ◌-◌}
 use native.Mathlib.Numerals.{add-one}
 use native.Mathlib.Omega.{arith}
 use lib.ListN.{get_or, set}
-use borrow.Author.Rules.{rules}
-use Rattle.schedule.specs.Limits as Limits
 use Rattle.table.specs.declared.Table.{Table}
 use Rattle.table.specs.Fresh.{no_node}
 use Rattle.window.specs.declared.Plan.{Plan}

@@ -1,5 +1,4 @@
 -- `asked` meets its contract.
-use borrow.Author.Rules.{rules}
 use Rattle.printing.proofs.answering.asked.Goals as goal
 
 pub returns-in-Report : goal.returns-in-Report

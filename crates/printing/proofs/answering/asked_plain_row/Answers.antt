@@ -1,5 +1,4 @@
 -- `asked_plain_row` meets its contract: what the call promises of its answer.
-use borrow.Author.Rules.{rules}
 use Rattle.printing.proofs.answering.asked_plain_row.Goals as goal
 
 pub returns : goal.returns

@@ -1,6 +1,5 @@
 -- `put_answer` meets its contract, by what the call answered.
 use Rattle.printing.proofs.Printed.{text_printed, text_short, refusal_printed, refusal_short}
-use borrow.Author.Rules.{rules}
 use Rattle.printing.proofs.answering.put_answer.Goals as goal
 
 pub returns-in-Text : goal.returns-in-Text
@@ -10,4 +9,4 @@ returns-in-Text c =
 
 pub returns-in-Refused : goal.returns-in-Refused
 returns-in-Refused c =
-     record { written = refusal_printed c.args.q c.args.table.now _ _ c.requires.q_in_bounds _ _ _ _ (rw c.in-Refused.is at c.asked-a.ensures) c.refusal_length-n.ensures.size c.put_refusal.ensures; upper_bound = refusal_short c.args.q _ c.refusal_length-n.ensures.within }
+    record { written = refusal_printed c.args.q c.args.table.now _ _ c.requires.q_in_bounds _ _ _ _ (rw c.in-Refused.is at c.asked-a.ensures) c.refusal_length-n.ensures.size c.put_refusal.ensures; upper_bound = refusal_short c.args.q _ c.refusal_length-n.ensures.within }

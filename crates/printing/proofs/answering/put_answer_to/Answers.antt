@@ -4,7 +4,6 @@ use lib.Seq.{length-take-le}
 use native.Mathlib.Omega.{arith}
 use Rattle.writer.proofs.WrittenLength.{longest_is}
 use Rattle.printing.proofs.Printed.{answers_fit, held_printed, written_within}
-use borrow.Author.Rules.{rules}
 use Rattle.printing.proofs.answering.put_answer_to.Goals as goal
 
 pub slice_bounds-put_answer-end : goal.slice_bounds-put_answer-end

@@ -1,5 +1,4 @@
 -- `put_batch` meets its contract: what stands in the slots is enough.
-use borrow.Author.Rules.{rules}
 use Rattle.printing.proofs.Batches.{held_tables}
 use Rattle.printing.proofs.batching.put_batch.Goals as goal
 

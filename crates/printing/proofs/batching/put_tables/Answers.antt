@@ -1,11 +1,11 @@
 -- `put_tables` meets its contract: at each turn the texts of the tables so far stand in the buffer.
 use mathlib.Core.Path.{◌≡◌, ◌∙◌}
-use Prim.Native.Nat.{◌+◌, ◌-◌, ◌*◌, ◌≤◌}
+use Prim.Native.Nat.{◌+◌, ◌-◌, ◌*◌}
 use native.Mathlib.Omega.{arith}
 use lib.ListN.{length}
 use borrow.Author.Rules.{rules}
 use Rattle.printing.specs.Batches.{slot_bytes}
-use Rattle.printing.proofs.Batches.{Put, begun, put_length, put_within, next_room, put_next}
+use Rattle.printing.proofs.Batches.{begun, put_within, next_room, put_next}
 use Rattle.printing.proofs.batching.put_tables.Goals as goal
 
 pub loop-i-init : goal.loop-i-init

@@ -1,10 +1,6 @@
-use mathlib.Core.Path.{◌≡◌, ◌∙◌}
-use Prim.Native.Nat.{◌+◌, ◌-◌, ◌*◌, ◌≤◌}
-use native.Mathlib.Omega.{arith}
+use Prim.Native.Nat.{◌-◌, ◌≤◌}
 use lib.ListN.{length}
-use borrow.Author.Rules.{rules}
-use Rattle.printing.specs.Batches.{slot_bytes}
-use Rattle.printing.proofs.Batches.{Put, begun, put_length, put_within, next_room, put_next}
+use Rattle.printing.proofs.Batches.{Put}
 use Rattle.printing.proofs.batching.put_tables.Given as goal
 
 abbrev pub invariant-loop-i : goal.invariant-loop-i

@@ -8,7 +8,6 @@ use Rattle.format.specs.Keys as Keys
 use Rattle.putting.specs.Texts.{heading, list_ended}
 use Rattle.putting.proofs.TextLaws.{after_parts}
 use Rattle.writing.proofs.Writing.{apart, named, begins, room, both}
-use borrow.Author.Rules.{rules}
 use Rattle.putting.proofs.node.put_after.Goals as goal
 
 pub put_heading-at-requires : goal.put_heading-at-requires

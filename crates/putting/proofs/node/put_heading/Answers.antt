@@ -1,18 +1,11 @@
 -- `put_heading` meets its contract: the name in the code's key, and `=` where it ended.
-use mathlib.Core.Path.{sym, subst, ◌∙◌}
-use mathlib.Core.List.{List, [], ◌∷◌}
-use Prim.Native.Nat.{ℕ, ◌≤◌}
+use mathlib.Core.Path.{sym}
 use native.Mathlib.Omega.{arith}
-use lib.ListN.{length, take, length-append}
 use lib.Seq.{length-take-le}
 use Rattle.format.specs.Bytes.{equals}
-use Rattle.format.specs.Keys.{key_at}
 use Rattle.writer.specs.Writing.{heading_text}
-use Rattle.table.specs.declared.Key.{Key}
 use Rattle.writing.proofs.Writing.{named, then_byte}
-use Rattle.putting.specs.Texts.{heading}
 use Rattle.putting.proofs.NameLaws.{name_is, name_inside, heading_long}
-use borrow.Author.Rules.{rules}
 use Rattle.putting.proofs.node.put_heading.Goals as goal
 
 pub slice_bounds-name-end : goal.slice_bounds-name-end

@@ -1,10 +1,9 @@
 -- `put_list` meets its contract: `none`, or the numbers.
-use mathlib.Core.Path.{refl, ap}
+use mathlib.Core.Path.{ap}
 use native.Mathlib.Omega.{arith}
 use lib.ListN.{length}
 use Rattle.writing.proofs.Writing.{named}
 use Rattle.putting.proofs.MaskText.{none_is}
-use borrow.Author.Rules.{rules}
 use Rattle.putting.proofs.node.put_list.Goals as goal
 
 pub put_bytes-requires : goal.put_bytes-requires

@@ -8,7 +8,6 @@ use Rattle.format.specs.Keys as Keys
 use Rattle.putting.specs.Texts.{two_lines, after_line}
 use Rattle.putting.proofs.TextLaws.{node_parts}
 use Rattle.writing.proofs.Writing.{apart, named, begins, room, both}
-use borrow.Author.Rules.{rules}
 use Rattle.putting.proofs.node.put_node.Goals as goal
 
 pub put_two-at-requires : goal.put_two-at-requires

@@ -9,7 +9,6 @@ use Rattle.writing.specs.Line.{ended}
 use Rattle.putting.specs.Texts.{heading}
 use Rattle.putting.proofs.TextLaws.{number_parts}
 use Rattle.writing.proofs.Writing.{apart, named, begins, room, both}
-use borrow.Author.Rules.{rules}
 use Rattle.putting.proofs.node.put_number_line.Goals as goal
 
 pub put_heading-at-requires : goal.put_heading-at-requires

@@ -7,7 +7,6 @@ use lib.ListN.{length}
 use Rattle.putting.specs.Texts.{number_line}
 use Rattle.putting.proofs.TextLaws.{two_parts}
 use Rattle.writing.proofs.Writing.{apart, named, begins, room, both}
-use borrow.Author.Rules.{rules}
 use Rattle.putting.proofs.node.put_two.Goals as goal
 
 pub overflow_add-next : goal.overflow_add-next

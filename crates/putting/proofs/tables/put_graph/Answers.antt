@@ -8,7 +8,6 @@ use Rattle.format.specs.Keys as Keys
 use Rattle.putting.specs.Texts.{three_lines, nodes_lines}
 use Rattle.putting.proofs.TextLaws.{graph_parts}
 use Rattle.writing.proofs.Writing.{apart, named, begins, room, both}
-use borrow.Author.Rules.{rules}
 use Rattle.putting.proofs.tables.put_graph.Goals as goal
 
 pub put_three-at-requires : goal.put_three-at-requires

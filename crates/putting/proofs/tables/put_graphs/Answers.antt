@@ -1,16 +1,14 @@
 -- `put_graphs` meets its contract: at each turn the graphs from entry g on are left to be written, their nodes from `first` on.
 use mathlib.Core.Path.{◌≡◌, refl, subst}
 use mathlib.Core.List.{[]}
-use Prim.Native.Nat.{ℕ, ◌+◌, ◌-◌, ◌≤◌}
+use Prim.Native.Nat.{ℕ, ◌+◌, ◌-◌}
 use native.Mathlib.Omega.{arith}
-use lib.ListN.{length, get_or}
-use Rattle.schedule.specs.Limits as Limits
+use lib.ListN.{get_or}
 use Rattle.writer.specs.Writing.{graphs_text}
 use Rattle.memory.specs.Plain.{no_graph, graphs_in}
-use Rattle.putting.specs.Texts.{graph_lines, graphs_lines, all_nodes}
+use Rattle.putting.specs.Texts.{graph_lines, graphs_lines}
 use Rattle.putting.proofs.Halfway.{Halfway, from_start, starts, has_room, goes_on, stays_long, ends, at_end_lem}
 use Rattle.putting.proofs.Steps.{graph_step, nodes_step, no_graph_lem}
-use borrow.Author.Rules.{rules}
 use Rattle.putting.proofs.tables.put_graphs.Goals as goal
 
 pub loop-left-init : goal.loop-left-init

@@ -1,15 +1,12 @@
-use mathlib.Core.Path.{◌≡◌, refl, subst}
+use mathlib.Core.Path.{◌≡◌}
 use mathlib.Core.List.{[]}
-use Prim.Native.Nat.{ℕ, ◌+◌, ◌-◌, ◌≤◌}
-use native.Mathlib.Omega.{arith}
-use lib.ListN.{length, get_or}
+use Prim.Native.Nat.{◌+◌, ◌-◌, ◌≤◌}
+use lib.ListN.{length}
 use Rattle.schedule.specs.Limits as Limits
 use Rattle.writer.specs.Writing.{graphs_text}
-use Rattle.memory.specs.Plain.{no_graph, graphs_in}
-use Rattle.putting.specs.Texts.{graph_lines, graphs_lines, all_nodes}
-use Rattle.putting.proofs.Halfway.{Halfway, from_start, starts, has_room, goes_on, stays_long, ends, at_end_lem}
-use Rattle.putting.proofs.Steps.{graph_step, nodes_step, no_graph_lem}
-use borrow.Author.Rules.{rules}
+use Rattle.memory.specs.Plain.{graphs_in}
+use Rattle.putting.specs.Texts.{graphs_lines, all_nodes}
+use Rattle.putting.proofs.Halfway.{Halfway}
 use Rattle.putting.proofs.tables.put_graphs.Given as goal
 
 abbrev pub invariant-loop-left : goal.invariant-loop-left

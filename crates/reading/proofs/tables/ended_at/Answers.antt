@@ -1,9 +1,8 @@
 -- `ended_at` meets its contract.
 use mathlib.Core.Path.{sym, ◌∙◌, ap}
 use Prim.Native.Nat.{◌-◌}
-use borrow.Author.Rules.{rules}
 use Rattle.format.specs.Reading.{◌and_then◌, ended, table}
-use Rattle.reading.specs.Outcomes.{end_of, taken}
+use Rattle.reading.specs.Outcomes.{end_of}
 use Rattle.reading.specs.declared.tables.End.{End}
 use Rattle.reading.proofs.Graphs.{ended_more, ended_none}
 use Rattle.reading.proofs.tables.ended_at.Goals as goal

@@ -2,7 +2,6 @@
 use mathlib.Core.Path.{refl, sym, ◌∙◌, ap}
 use Prim.Native.Nat.{◌-◌}
 use native.Mathlib.Omega.{arith}
-use borrow.Author.Rules.{rules}
 use Rattle.theorems.proofs.Formed.{within_limits}
 use Rattle.rules.proofs.Outcomes.{told}
 use Rattle.format.specs.Keys as Keys

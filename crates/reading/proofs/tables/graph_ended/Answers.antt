@@ -2,10 +2,8 @@
 use mathlib.Core.Path.{sym, ◌∙◌}
 use Prim.Native.Nat.{◌-◌}
 use native.Mathlib.Omega.{arith}
-use borrow.Author.Rules.{rules}
 use borrow.Author.Tests.{eq-eqb, ne_eqb}
 use Rattle.numbers.specs.Masks.{unset_below}
-use Rattle.reading.specs.Outcomes.{taken}
 use Rattle.reading.proofs.tables.graph_ended.Goals as goal
 
 pub unset_below-requires : goal.unset_below-requires

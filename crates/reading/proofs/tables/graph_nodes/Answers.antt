@@ -2,7 +2,6 @@
 use mathlib.Core.Path.{sym, ◌∙◌, ap}
 use Prim.Native.Nat.{ℕ, ◌-◌}
 use native.Mathlib.Omega.{arith}
-use borrow.Author.Rules.{rules}
 use Rattle.rules.proofs.Outcomes.{told}
 use Rattle.rules.proofs.ReadWellFormed.{nodes_holds}
 use Rattle.format.specs.declared.Refusal.TheVariants.{OutsideLimits}

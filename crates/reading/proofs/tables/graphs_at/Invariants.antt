@@ -1,19 +1,9 @@
-use mathlib.Core.Path.{◌≡◌, sym, ◌∙◌, ap}
+use mathlib.Core.Path.{◌≡◌}
 use Prim.Native.Nat.{◌+◌, ◌-◌, ◌*◌, ◌≤◌}
-use native.Mathlib.Omega.{arith}
-use lib.ListN.{length}
-use borrow.Author.Rules.{rules}
-use Rattle.theorems.proofs.Formed.{within_limits, graph_formed_lem}
-use Rattle.rules.proofs.Outcomes.{told}
-use Rattle.rules.proofs.ReadWellFormed.{graph_holds}
 use Rattle.schedule.specs.Limits as Limits
-use Rattle.format.specs.Reading.{graph, graphs_from, table}
-use Rattle.table.specs.declared.Table.{Table as Memory}
-use Rattle.reading.specs.Memory.{with_graph, with_graphs}
+use Rattle.format.specs.Reading.{graphs_from}
+use Rattle.reading.specs.Memory.{with_graphs}
 use Rattle.lines.specs.Numbered.{map_outcome, place_of}
-use Rattle.reading.specs.Outcomes.{end_of}
-use Rattle.reading.proofs.Graphs.{graphs_one, graphs_refused, graphs_none}
-use Rattle.reading.proofs.Images.{image_done, image_refused}
 use Rattle.reading.proofs.tables.graphs_at.Given as goal
 
 abbrev pub invariant-loop-g : goal.invariant-loop-g

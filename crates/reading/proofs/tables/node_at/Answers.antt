@@ -1,7 +1,6 @@
 -- `node_at_lem` meets its contract: a node is its three lines.
 use mathlib.Core.Path.{sym, ◌∙◌, ap}
 use Prim.Native.Nat.{◌-◌}
-use borrow.Author.Rules.{rules}
 use Rattle.lines.specs.Numbered.{map_outcome, place_of, three_read_of}
 use Rattle.reading.proofs.Runs.{row_of, node_three}
 use Rattle.reading.proofs.tables.node_at.Goals as goal

@@ -1,6 +1,6 @@
 -- `nodes_at` meets its contract: at each turn the nodes from number own on go into the entries from slot on.
 use mathlib.Core.Path.{◌≡◌, sym, ◌∙◌, ap}
-use Prim.Native.Nat.{suc, ◌+◌, ◌-◌, ◌*◌, ◌≤◌}
+use Prim.Native.Nat.{suc, ◌+◌, ◌-◌}
 use native.Mathlib.Omega.{arith}
 use lib.Bits.{bit_or}
 use lib.ListN.{set}

@@ -1,18 +1,8 @@
-use mathlib.Core.Path.{◌≡◌, sym, ◌∙◌, ap}
+use mathlib.Core.Path.{◌≡◌}
 use Prim.Native.Nat.{suc, ◌+◌, ◌-◌, ◌*◌, ◌≤◌}
-use native.Mathlib.Omega.{arith}
-use lib.Bits.{bit_or}
-use lib.ListN.{set}
-use borrow.Author.Rules.{rules}
-use Rattle.rules.proofs.Outcomes.{told}
-use Rattle.rules.proofs.ReadWellFormed.{node_holds}
-use Rattle.format.specs.Reading.{node, nodes_from}
-use Rattle.table.specs.declared.Node.{Node as Row}
-use Rattle.reading.specs.Memory.{coded_node}
+use Rattle.format.specs.Reading.{nodes_from}
 use Rattle.lines.specs.Numbered.{map_outcome, place_of}
-use Rattle.reading.specs.Outcomes.{node_read_of, taken}
-use Rattle.reading.proofs.Images.{image_done, image_refused}
-use Rattle.reading.proofs.Runs.{nodes_one, nodes_stop, nodes_none}
+use Rattle.reading.specs.Outcomes.{taken}
 use Rattle.reading.proofs.tables.nodes_at.Given as goal
 
 abbrev pub invariant-loop-own : goal.invariant-loop-own

@@ -11,7 +11,7 @@ returns c =
       ap (set a.unfinished.now a.i) c.one_more.ensures,
       (
         elim c.if-not-due.branch [
-          then-not-due w ↦ unlinked_more a.unlinked.now a.i a.due w.if-not-due.true w.unlinked-is w.one_more-then-not-due.ensures
+          | then-not-due w ↦ unlinked_more a.unlinked.now a.i a.due w.if-not-due.true w.unlinked-is w.one_more-then-not-due.ensures
           | else-not-due w ↦ unlinked_same a.unlinked.now a.i a.due w.if-not-due.false w.unlinked-is
         ],
         ap (set a.next.now a.i) c.further.ensures,

@@ -13,7 +13,7 @@ returns c =
       ap (λ (k : ℕ). set a.left.now k a.budget) c.slot_at.ensures,
       (
         first_entered a.first.now a.i _ _ (elim c.if-n-eq0.branch [
-          then-n-eq0 w ↦ inl (w.if-n-eq0.true, w.first-is)
+          | then-n-eq0 w ↦ inl (w.if-n-eq0.true, w.first-is)
           | else-n-eq0 w ↦ inr (w.if-n-eq0.false, w.first-is)
         ]),
         refl,

@@ -24,8 +24,8 @@ loop-i-preserved c =
     let later = full_later a.next.now a.count.now a.unfinished.now a.room.now a.t i in (
       search rules,
       elim c.if-next-i.branch [
-        then-next-i+then-count-i w ↦ w.any-is ∙ some_yes full i (yes w.if-next-i.true (elim w.then-count-i.branch [
-          then-count-i-via-then-count-i v ↦ inl v.if-count-i.true
+        | then-next-i+then-count-i w ↦ w.any-is ∙ some_yes full i (yes w.if-next-i.true (elim w.then-count-i.branch [
+          | then-count-i-via-then-count-i v ↦ inl v.if-count-i.true
           | then-count-i-via-else-count-i+then-room-i v ↦ inr (v.if-count-i.false, v.if-room-i.true)
         ]))
         | then-next-i+else-count-i+else-room-i w ↦ w.any-is ∙ c.loop-i.invariant.1 ∙ some_no full i (no w.if-next-i.true w.if-count-i.false w.if-room-i.false)

@@ -16,7 +16,7 @@ loop-i-preserved c =
     let next = c.args.next.now in (
       search rules,
       elim c.if-next-i.branch [
-        then-next-i w ↦ w.least-is ∙ earliest_now next c.loop-i.i c.loop-i.invariant.1 w.if-next-i.true
+        | then-next-i w ↦ w.least-is ∙ earliest_now next c.loop-i.i c.loop-i.invariant.1 w.if-next-i.true
         | else-next-i w ↦ w.least-is ∙ earliest_before next c.loop-i.i c.loop-i.invariant.1 w.if-next-i.false
       ],
     )

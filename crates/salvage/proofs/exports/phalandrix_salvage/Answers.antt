@@ -1,6 +1,5 @@
 -- `phalandrix_salvage` meets its contract: it tells what `salvage` answers.
 use Rattle.salvage.proofs.Told.{told_call}
-use borrow.Author.Rules.{rules}
 use Rattle.salvage.proofs.exports.phalandrix_salvage.Goals as goal
 
 pub returns : goal.returns

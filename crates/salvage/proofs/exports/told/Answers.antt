@@ -1,5 +1,4 @@
 -- `told` meets its contract, case by case.
-use borrow.Author.Rules.{rules}
 use Rattle.salvage.proofs.exports.told.Goals as goal
 
 pub returns-in-Texts : goal.returns-in-Texts

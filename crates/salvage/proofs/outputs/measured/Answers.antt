@@ -1,10 +1,7 @@
 -- `measured` meets its contract.
-use mathlib.Core.Path.{◌≡◌}
-use Prim.Native.Nat.{◌+◌, ◌-◌, ◌≤◌}
+use Prim.Native.Nat.{◌-◌}
 use native.Mathlib.Omega.{arith}
-use lib.ListN.{length, drop}
-use Rattle.salvage.proofs.Measuring.{Counted, counted_start, added_small, line_small, number_small, text_room_lem, list_room_lem, counted_on, ended_small, text_all, list_all, text_room_last, list_room_last}
-use borrow.Author.Rules.{rules}
+use Rattle.salvage.proofs.Measuring.{counted_start, added_small, line_small, number_small, text_room_lem, list_room_lem, counted_on, ended_small, text_all, list_all, text_room_last, list_room_last}
 use Rattle.salvage.proofs.outputs.measured.Goals as goal
 
 pub loop-i-init : goal.loop-i-init

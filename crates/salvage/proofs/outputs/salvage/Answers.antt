@@ -1,7 +1,6 @@
 -- `salvage` meets its contract: refusals 1 and 10, or both outputs written.
 use native.Mathlib.Omega.{arith}
 use Rattle.salvage.proofs.Calls.{given_too_long, left_too_long, short_text, short_list, both_written}
-use borrow.Author.Rules.{rules}
 use Rattle.salvage.proofs.outputs.salvage.Goals as goal
 
 pub returns-then-bytes : goal.returns-then-bytes

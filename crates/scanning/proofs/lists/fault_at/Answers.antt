@@ -2,12 +2,11 @@
 use mathlib.Core.List.{List}
 use mathlib.Core.Path.{◌≡◌, refl, sym, ◌∙◌, ap, subst}
 use mathlib.Core.Bool.{Bool, ◌&&◌, and-false}
-use Prim.Native.Nat.{ℕ, suc, ◌+◌, ◌-◌, ◌<◌}
+use Prim.Native.Nat.{ℕ, suc, ◌-◌, ◌<◌}
 use native.Mathlib.Omega.{arith}
 use lib.ListN.{length, drop, length-drop}
-use borrow.Author.Rules.{rules}
 use Rattle.format.specs.Bytes.{comma}
-use Rattle.format.specs.Spelling.{read, wrong, number, next?}
+use Rattle.format.specs.Spelling.{read, number}
 use Rattle.format.specs.Reading.{offending_by, offending}
 use Rattle.scanning.specs.Positions.{capped, scanned_of}
 use Rattle.scanning.proofs.Faults.{rises, took, fault_no_number, fault_here, fault_later}
@@ -16,7 +15,7 @@ use Rattle.scanning.proofs.lists.fault_at.Goals as goal
 
 pub loop-v-init : goal.loop-v-init
 unfolding offending
-loop-v-init c =  (suc (length (drop c.args.at c.args.s.now)), omega arith, refl)
+loop-v-init c = (suc (length (drop c.args.at c.args.s.now)), omega arith, refl)
 
 pub returns-in-Wrong : goal.returns-in-Wrong
 returns-in-Wrong c =

@@ -1,16 +1,7 @@
-use mathlib.Core.List.{List}
-use mathlib.Core.Path.{◌≡◌, refl, sym, ◌∙◌, ap, subst}
-use mathlib.Core.Bool.{Bool, ◌&&◌, and-false}
-use Prim.Native.Nat.{ℕ, suc, ◌+◌, ◌-◌, ◌<◌}
-use native.Mathlib.Omega.{arith}
-use lib.ListN.{length, drop, length-drop}
-use borrow.Author.Rules.{rules}
-use Rattle.format.specs.Bytes.{comma}
-use Rattle.format.specs.Spelling.{read, wrong, number, next?}
+use mathlib.Core.Path.{◌≡◌}
+use Prim.Native.Nat.{ℕ, ◌-◌, ◌<◌}
+use lib.ListN.{length, drop}
 use Rattle.format.specs.Reading.{offending_by, offending}
-use Rattle.scanning.specs.Positions.{capped, scanned_of}
-use Rattle.scanning.proofs.Faults.{rises, took, fault_no_number, fault_here, fault_later}
-use Rattle.scanning.proofs.ScannerLaws.{next_in, tail_drop}
 use Rattle.scanning.proofs.lists.fault_at.Given as goal
 
 abbrev pub invariant-loop-v : goal.invariant-loop-v

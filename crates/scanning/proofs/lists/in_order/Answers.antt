@@ -1,6 +1,5 @@
 -- `in_order_lem` meets its contract.
 use mathlib.Core.Path.{sym, ◌∙◌}
-use borrow.Author.Rules.{rules}
 use borrow.Author.Tests.{eq-eqb, ne_eqb}
 use Rattle.numbers.specs.Masks.{ones}
 use Rattle.scanning.proofs.lists.in_order.Goals as goal

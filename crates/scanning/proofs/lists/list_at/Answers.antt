@@ -2,7 +2,6 @@
 use mathlib.Core.Path.{sym, ◌∙◌, ap}
 use Prim.Native.Nat.{◌-◌}
 use lib.ListN.{drop}
-use borrow.Author.Rules.{rules}
 use Rattle.scanning.specs.Positions.{found_of}
 use Rattle.scanning.proofs.Predecessors.{none_wrong, none_read, some_listed}
 use Rattle.scanning.proofs.lists.list_at.Goals as goal

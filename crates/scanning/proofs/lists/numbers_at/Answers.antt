@@ -3,8 +3,7 @@ use mathlib.Core.List.{List}
 use mathlib.Core.Path.{◌≡◌, refl, sym, ◌∙◌, ap}
 use Prim.Native.Nat.{ℕ, ◌+◌, ◌-◌}
 use native.Mathlib.Omega.{arith}
-use lib.ListN.{length, drop, length-drop}
-use borrow.Author.Rules.{rules}
+use lib.ListN.{drop, length-drop}
 use Rattle.format.specs.Bytes.{comma}
 use Rattle.format.specs.Spelling.{read, number, numbers}
 use Rattle.scanning.specs.Masks.{entered, entries}

@@ -1,16 +1,9 @@
-use mathlib.Core.List.{List}
-use mathlib.Core.Path.{◌≡◌, refl, sym, ◌∙◌, ap}
-use Prim.Native.Nat.{ℕ, ◌+◌, ◌-◌}
-use native.Mathlib.Omega.{arith}
-use lib.ListN.{length, drop, length-drop}
-use borrow.Author.Rules.{rules}
-use Rattle.format.specs.Bytes.{comma}
-use Rattle.format.specs.Spelling.{read, number, numbers}
-use Rattle.scanning.specs.Masks.{entered, entries}
-use Rattle.scanning.specs.Positions.{map_scan, capped, scanned_of}
-use Rattle.scanning.specs.declared.lists.Listing.{Listing}
-use Rattle.scanning.proofs.Predecessors.{entries_wrong, entries_more, entries_last, number_took}
-use Rattle.scanning.proofs.ScannerLaws.{next_in, tail_drop}
+use mathlib.Core.Path.{◌≡◌}
+use Prim.Native.Nat.{◌-◌}
+use lib.ListN.{length, drop}
+use Rattle.format.specs.Spelling.{numbers}
+use Rattle.scanning.specs.Masks.{entries}
+use Rattle.scanning.specs.Positions.{map_scan}
 use Rattle.scanning.proofs.lists.numbers_at.Given as goal
 
 abbrev pub invariant-loop-w : goal.invariant-loop-w

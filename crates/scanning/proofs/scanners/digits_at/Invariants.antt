@@ -1,11 +1,8 @@
-use mathlib.Core.Path.{◌≡◌, refl, sym, ◌∙◌, ap}
-use Prim.Native.Nat.{ℕ, ◌+◌, ◌-◌, ◌≤◌}
-use native.Mathlib.Omega.{arith}
+use mathlib.Core.Path.{◌≡◌}
+use Prim.Native.Nat.{◌-◌, ◌≤◌}
 use lib.ListN.{length, drop}
-use borrow.Author.Rules.{rules}
 use Rattle.format.specs.Spelling.{digits}
 use Rattle.scanning.specs.Positions.{far, capped}
-use Rattle.scanning.proofs.ScannerLaws.{digit_value, more_digits, no_digit, digits_past}
 use Rattle.scanning.proofs.scanners.digits_at.Given as goal
 
 abbrev pub invariant-loop-p : goal.invariant-loop-p

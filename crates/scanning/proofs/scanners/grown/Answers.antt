@@ -1,6 +1,5 @@
 -- `grown` meets its contract: in 64 bits nothing wraps, and what is below FAR fits 32.
 use native.Mathlib.Omega.{arith}
-use borrow.Author.Rules.{rules}
 use Rattle.scanning.proofs.scanners.grown.Goals as goal
 
 pub overflow_cast-result : goal.overflow_cast-result

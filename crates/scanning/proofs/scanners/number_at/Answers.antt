@@ -3,13 +3,12 @@ use mathlib.Core.Path.{sym, ◌∙◌, ap}
 use Prim.Native.Nat.{◌-◌}
 use native.Mathlib.Omega.{arith}
 use lib.ListN.{get_or}
-use borrow.Author.Rules.{rules}
 use Rattle.scanning.specs.Positions.{capped}
 use Rattle.scanning.proofs.ScannerLaws.{digit_value, number_past, number_other, number_zero, number_more}
 use Rattle.scanning.proofs.scanners.number_at.Goals as goal
 
 pub returns-then-s-at : goal.returns-then-s-at
-returns-then-s-at c =  sym (ap capped (number_past c.args.s.now c.args.at c.if-s-at.true))
+returns-then-s-at c = sym (ap capped (number_past c.args.s.now c.args.at c.if-s-at.true))
 
 pub returns-then-c-eq48 : goal.returns-then-c-eq48
 returns-then-c-eq48 c =

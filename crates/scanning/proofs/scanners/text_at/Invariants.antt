@@ -1,10 +1,7 @@
-use mathlib.Core.Path.{◌≡◌, refl, sym, ◌∙◌}
+use mathlib.Core.Path.{◌≡◌}
 use Prim.Native.Nat.{◌-◌, ◌≤◌}
-use native.Mathlib.Omega.{arith}
 use lib.ListN.{take, drop}
-use borrow.Author.Rules.{rules}
 use Rattle.format.specs.Spelling.{text}
-use Rattle.scanning.proofs.ScannerLaws.{rest_past, rest_other, rest_same, rest_found}
 use Rattle.scanning.proofs.scanners.text_at.Given as goal
 
 abbrev pub invariant-loop-i : goal.invariant-loop-i

@@ -1,5 +1,4 @@
 -- `told` meets its contract, case by case.
-use borrow.Author.Rules.{rules}
 use Rattle.sheet.proofs.exports.told.Goals as goal
 
 pub returns-in-Text : goal.returns-in-Text

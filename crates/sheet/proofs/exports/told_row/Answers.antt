@@ -1,5 +1,4 @@
 -- `told_row` meets its contract.
-use borrow.Author.Rules.{rules}
 use Rattle.sheet.proofs.exports.told_row.Goals as goal
 
 pub returns : goal.returns

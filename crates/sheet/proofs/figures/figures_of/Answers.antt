@@ -1,6 +1,6 @@
 -- `figures_of` meets its contract. The loop keeps: the first g figures are taken over.
-use mathlib.Core.Path.{◌≡◌, refl, ap, ◌∙◌}
-use Prim.Native.Nat.{◌-◌, ◌≤◌}
+use mathlib.Core.Path.{refl, ap, ◌∙◌}
+use Prim.Native.Nat.{◌-◌}
 use native.Mathlib.Nat.{le_antisymm}
 use lib.ListN.{replicate}
 use borrow.Author.Rules.{rules}
@@ -15,12 +15,11 @@ unfolding replaced
 loop-g-init c = (search rules, refl)
 
 pub loop-g-preserved : goal.loop-g-preserved
-loop-g-preserved c =
-     (
-      search rules,
-      replaced_more (figure_in c.args.graph c.args.worst) (replicate (Limits.graphs).to 0) c.loop-g.g c.loop-g.invariant.1
-          (c.worst_at.ensures ∙ ap (worst_at c.args.worst) c.sink_of.ensures),
-    )
+loop-g-preserved c = (
+  search rules,
+  replaced_more (figure_in c.args.graph c.args.worst) (replicate (Limits.graphs).to 0) c.loop-g.g c.loop-g.invariant.1
+      (c.worst_at.ensures ∙ ap (worst_at c.args.worst) c.sink_of.ensures),
+)
 
 pub returns : goal.returns
 returns c = rw (le_antisymm c.loop-g.invariant.0 c.loop-g-test.false) at c.loop-g.invariant.1

@@ -1,12 +1,9 @@
-use mathlib.Core.Path.{◌≡◌, refl, ap, ◌∙◌}
+use mathlib.Core.Path.{◌≡◌}
 use Prim.Native.Nat.{◌-◌, ◌≤◌}
-use native.Mathlib.Nat.{le_antisymm}
 use lib.ListN.{replicate}
-use borrow.Author.Rules.{rules}
 use Rattle.schedule.specs.Limits as Limits
 use Rattle.window.specs.Loops.{replaced}
-use Rattle.window.proofs.LoopLaws.{replaced_more}
-use Rattle.sheet.specs.Figures.{worst_at, figure_in}
+use Rattle.sheet.specs.Figures.{figure_in}
 use Rattle.sheet.proofs.figures.figures_of.Given as goal
 
 abbrev pub invariant-loop-g : goal.invariant-loop-g

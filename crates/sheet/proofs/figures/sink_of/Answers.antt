@@ -1,6 +1,5 @@
 -- `sink_of` meets its contract, by its two tests.
 use native.Mathlib.Omega.{arith}
-use borrow.Author.Rules.{rules}
 use borrow.Author.Tests.{lt-ltb, le-ltb}
 use Rattle.sheet.proofs.figures.sink_of.Goals as goal
 

@@ -1,5 +1,4 @@
 -- `worst_at` meets its contract, by its test.
-use borrow.Author.Rules.{rules}
 use borrow.Author.Tests.{lt-ltb, le-ltb}
 use Rattle.sheet.proofs.figures.worst_at.Goals as goal
 

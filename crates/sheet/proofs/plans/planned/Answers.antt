@@ -1,5 +1,4 @@
 -- `planned` meets its contract: call by call.
-use borrow.Author.Rules.{rules}
 use Rattle.sheet.proofs.plans.planned.Goals as goal
 
 pub returns : goal.returns

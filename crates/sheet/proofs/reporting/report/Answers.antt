@@ -6,11 +6,10 @@ use Rattle.rules.proofs.TrueReports.{an_answered_report_is_true}
 use Rattle.sheet.proofs.CallLaws.{refused_call}
 use Rattle.sheet.proofs.Reports.{refused_report}
 use Rattle.sheet.proofs.Planning.{planned_refused, planned_walkable, planned_few, planned_report}
-use borrow.Author.Rules.{rules}
 use Rattle.sheet.proofs.reporting.report.Goals as goal
 
 pub walk_to-w-requires : goal.walk_to-w-requires
-walk_to-w-requires c =  planned_walkable _ c.planned-p.result c.planned-p.ensures c.in-Passed.is
+walk_to-w-requires c = planned_walkable _ c.planned-p.result c.planned-p.ensures c.in-Passed.is
 
 pub report_walk-requires : goal.report_walk-requires
 report_walk-requires c =

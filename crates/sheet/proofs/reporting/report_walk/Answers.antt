@@ -1,7 +1,6 @@
 -- `report_walk` meets its contract, by how the walk ended.
 use mathlib.Core.Path.{◌∙◌}
 use Rattle.sheet.proofs.CallLaws.{refused_call}
-use borrow.Author.Rules.{rules}
 use Rattle.sheet.proofs.reporting.report_walk.Goals as goal
 
 pub returns-in-Settled : goal.returns-in-Settled

@@ -7,7 +7,6 @@ use Rattle.repeating.proofs.MovingLaws.{far_few}
 use Rattle.sheet.specs.Rows.{end_by}
 use Rattle.sheet.proofs.RowTold.{told_refused, refused_told}
 use Rattle.sheet.proofs.Planning.{planned_refused, planned_walkable, planned_above, planned_near, planned_far, planned_stopped}
-use borrow.Author.Rules.{rules}
 use Rattle.sheet.proofs.rowing.row.Goals as goal
 
 pub returns-then-instant : goal.returns-then-instant

@@ -1,7 +1,6 @@
 -- `shown` meets its contract: the row needs three parts of what a walk shows.
 use mathlib.Core.Path.{◌∙◌}
 use Rattle.rows.proofs.Entries.{row_seen}
-use borrow.Author.Rules.{rules}
 use Rattle.sheet.proofs.rowing.shown.Goals as goal
 
 pub returns : goal.returns

@@ -1,5 +1,4 @@
 -- `ticks_told` meets its contract, by the answer.
-use borrow.Author.Rules.{rules}
 use Rattle.sheet.proofs.rowing.ticks_told.Goals as goal
 
 pub returns-in-Text : goal.returns-in-Text

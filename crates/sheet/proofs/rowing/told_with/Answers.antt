@@ -1,5 +1,4 @@
 -- `told_with` meets its contract.
-use borrow.Author.Rules.{rules}
 use Rattle.sheet.proofs.rowing.told_with.Goals as goal
 
 pub returns : goal.returns

@@ -1,5 +1,4 @@
 -- `Table::fresh` meets its contract: its servers are copies of what `empty_server` ensures.
-use borrow.Author.Rules.{rules}
 use Rattle.table.proofs.Table.fresh.Goals as goal
 
 pub returns : goal.returns

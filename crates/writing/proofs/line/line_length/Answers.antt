@@ -4,7 +4,6 @@ use native.Mathlib.Omega.{arith}
 use lib.ListN.{length-append}
 use Rattle.format.specs.Bytes.{equals, line_feed, decimal}
 use Rattle.writing.specs.Line.{ended}
-use borrow.Author.Rules.{rules}
 use Rattle.writing.proofs.line.line_length.Goals as goal
 
 pub overflow_add-result-2 : goal.overflow_add-result-2

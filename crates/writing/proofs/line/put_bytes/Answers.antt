@@ -1,12 +1,10 @@
 -- `put_bytes` meets its contract. The loop's invariant: the first `i` bytes of the text are written. The measure is what is left of the text.
-use mathlib.Core.Path.{◌≡◌, refl, sym, ap, ◌∙◌}
-use mathlib.Core.List.{List}
-use Prim.Native.Nat.{ℕ, ◌-◌, ◌≤◌, ◌<◌}
+use mathlib.Core.Path.{refl, sym, ap, ◌∙◌}
+use Prim.Native.Nat.{ℕ, ◌-◌, ◌<◌}
 use native.Mathlib.Numerals.{add-one}
 use native.Mathlib.Omega.{arith}
 use lib.ListN.{length, take, get_or, length-set}
 use lib.Seq.{take-suc, take_all, length-take-le}
-use Rattle.writing.specs.Written.{Written}
 use Rattle.writing.proofs.Writing.{nothing, named, then_byte}
 use Rattle.writing.proofs.line.put_bytes.Goals as goal
 

@@ -4,11 +4,10 @@ use native.Mathlib.Omega.{arith}
 use lib.ListN.{length-append}
 use Rattle.format.specs.Bytes.{decimal}
 use Rattle.writing.proofs.Writing.{then_byte}
-use borrow.Author.Rules.{rules}
 use Rattle.writing.proofs.line.put_ended.Goals as goal
 
 pub put_number-n-requires : goal.put_number-n-requires
-put_number-n-requires c =  omega (arith, length-append (decimal c.args.v) (c.args.end ∷ []), c.requires)
+put_number-n-requires c = omega (arith, length-append (decimal c.args.v) (c.args.end ∷ []), c.requires)
 
 pub bounds-part-n : goal.bounds-part-n
 bounds-part-n c =

@@ -7,8 +7,7 @@ use lib.Seq.{append_snoc}
 use Rattle.format.specs.Bytes.{equals, line_feed}
 use Rattle.writing.specs.Line.{ended, line}
 use Rattle.writing.specs.Written.{Written}
-use Rattle.writing.proofs.Writing.{named, then_byte, begins, room, both, keeps}
-use borrow.Author.Rules.{rules}
+use Rattle.writing.proofs.Writing.{named, then_byte, begins, room, both}
 use Rattle.writing.proofs.line.put_line.Goals as goal
 
 module _ {name part t : List ℕ} {n : ℕ} (v : ℕ) (w : Written name part t n) (fit : length (line name v) ≤ length part) where

@@ -5,7 +5,6 @@ use lib.ListN.{length}
 use Rattle.format.specs.Bytes.{comma}
 use Rattle.writing.specs.Line.{ended}
 use Rattle.writing.proofs.Writing.{apart, begins, room, both}
-use borrow.Author.Rules.{rules}
 use Rattle.writing.proofs.line.put_pair.Goals as goal
 
 pub put_ended-at-requires : goal.put_ended-at-requires

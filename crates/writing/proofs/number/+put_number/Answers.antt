@@ -1,9 +1,7 @@
 -- `put_number` meets its contract: the digits of the tenth are written before the last digit, and the number falls.
 use mathlib.Core.Path.{sym}
-use Prim.Native.Nat.{ℕ, ◌+◌, ◌%◌, ◌<◌}
+use Prim.Native.Nat.{◌+◌, ◌%◌}
 use native.Mathlib.Omega.{arith}
-use lib.ListN.{length-set}
-use borrow.Author.Rules.{rules}
 use Rattle.format.specs.Bytes.{digit_zero}
 use Rattle.format.proofs.Decimal.{decimal_one, decimal_more}
 use Rattle.writing.proofs.Counting.{digits_one, digits_more}

@@ -6,7 +6,6 @@ use lib.ListN.{length, length-append}
 use Rattle.format.specs.Bytes.{bytes}
 use Rattle.format.specs.Refusals.{line_of, column_of}
 use Rattle.writing.specs.Line.{line}
-use borrow.Author.Rules.{rules}
 use Rattle.writing.proofs.refusal.place_length.Goals as goal
 
 pub overflow_add-result : goal.overflow_add-result

@@ -8,7 +8,6 @@ use Rattle.format.specs.Bytes.{bytes}
 use Rattle.format.specs.Refusals.{line_of, column_of}
 use Rattle.writing.specs.Line.{line}
 use Rattle.writing.proofs.Writing.{named, apart, begins, room, both}
-use borrow.Author.Rules.{rules}
 use Rattle.writing.proofs.refusal.put_place.Goals as goal
 
 pub put_line-at-requires : goal.put_line-at-requires

@@ -1,7 +1,6 @@
 -- `put_refusal` meets its contract: `line=` and `column=` go where the line before them ended.
 use mathlib.Core.Path.{ap}
-use mathlib.Core.List.{List}
-use Prim.Native.Nat.{ℕ, ◌+◌, ◌≤◌}
+use Prim.Native.Nat.{◌+◌, ◌≤◌}
 use native.Mathlib.Omega.{arith}
 use lib.ListN.{length}
 use Rattle.format.specs.Bytes.{bytes}
@@ -9,7 +8,6 @@ use Rattle.format.specs.Refusals.{number_of}
 use Rattle.rules.specs.Answers.{answer_line, printed}
 use Rattle.writing.specs.Line.{line, placed}
 use Rattle.writing.proofs.Writing.{named, apart, begins, room, both}
-use borrow.Author.Rules.{rules}
 use Rattle.writing.proofs.refusal.put_refusal.Goals as goal
 
 pub put_line-at-requires : goal.put_line-at-requires

@@ -7,7 +7,6 @@ use Rattle.format.specs.Bytes.{bytes}
 use Rattle.format.specs.Refusals.{number_of}
 use Rattle.rules.specs.Answers.{answer_line, printed}
 use Rattle.writing.specs.Line.{line, placed}
-use borrow.Author.Rules.{rules}
 use Rattle.writing.proofs.refusal.refusal_length.Goals as goal
 
 pub overflow_add-result : goal.overflow_add-result

@@ -4,10 +4,8 @@ use mathlib.Core.List.{List}
 use Prim.Native.Nat.{ℕ, ◌+◌, ◌-◌, ◌≤◌, ◌<◌}
 use native.Mathlib.Omega.{arith}
 use lib.ListN.{length, take, get_or}
-use borrow.Author.Rules.{rules}
 use Rattle.schedule.specs.Limits as Limits
 use Rattle.rules.specs.Answers.{response_lines}
-use Rattle.writing.specs.Written.{Written}
 use Rattle.writing.proofs.Writing.{nothing, named, begins, room, both, keeps}
 use Rattle.writing.proofs.Responses.{response, response_more, response_fits}
 use Rattle.writing.proofs.report.put_responses.Goals as goal

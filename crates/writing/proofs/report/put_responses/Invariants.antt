@@ -1,14 +1,8 @@
-use mathlib.Core.Path.{◌≡◌, refl, ap}
-use mathlib.Core.List.{List}
-use Prim.Native.Nat.{ℕ, ◌+◌, ◌-◌, ◌≤◌, ◌<◌}
-use native.Mathlib.Omega.{arith}
-use lib.ListN.{length, take, get_or}
-use borrow.Author.Rules.{rules}
-use Rattle.schedule.specs.Limits as Limits
+use mathlib.Core.Path.{◌≡◌}
+use Prim.Native.Nat.{◌-◌, ◌≤◌}
+use lib.ListN.{length, take}
 use Rattle.rules.specs.Answers.{response_lines}
 use Rattle.writing.specs.Written.{Written}
-use Rattle.writing.proofs.Writing.{nothing, named, begins, room, both, keeps}
-use Rattle.writing.proofs.Responses.{response, response_more, response_fits}
 use Rattle.writing.proofs.report.put_responses.Given as goal
 
 abbrev pub invariant-loop-g : goal.invariant-loop-g

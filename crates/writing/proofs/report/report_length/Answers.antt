@@ -5,7 +5,6 @@ use lib.ListN.{take, length-append}
 use Rattle.format.specs.Bytes.{bytes}
 use Rattle.rules.specs.Answers.{answer_line, response_lines, report_text}
 use Rattle.writing.specs.Line.{line}
-use borrow.Author.Rules.{rules}
 use Rattle.writing.proofs.report.report_length.Goals as goal
 
 pub overflow_add-head : goal.overflow_add-head

@@ -1,12 +1,9 @@
 -- `responses_length` meets its contract. The loop's invariant: `n` is the length of the first `g` lines, each of which is at most the longest.
 use mathlib.Core.Path.{◌≡◌, refl, ap, ◌∙◌}
-use Prim.Native.Nat.{ℕ, ◌*◌, ◌-◌, ◌≤◌, ◌<◌}
+use Prim.Native.Nat.{ℕ, ◌-◌, ◌<◌}
 use native.Mathlib.Omega.{arith}
 use lib.ListN.{length, take, get_or, length-append}
-use Rattle.schedule.specs.Limits as Limits
-use Rattle.format.specs.Bytes.{bytes}
 use Rattle.rules.specs.Answers.{response_lines}
-use Rattle.writing.specs.Lengths.{longest_line}
 use Rattle.writing.proofs.Responses.{response, response_more}
 use Rattle.writing.proofs.report.responses_length.Goals as goal
 

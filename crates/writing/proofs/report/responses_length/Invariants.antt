@@ -1,12 +1,10 @@
-use mathlib.Core.Path.{◌≡◌, refl, ap, ◌∙◌}
-use Prim.Native.Nat.{ℕ, ◌*◌, ◌-◌, ◌≤◌, ◌<◌}
-use native.Mathlib.Omega.{arith}
-use lib.ListN.{length, take, get_or, length-append}
-use Rattle.schedule.specs.Limits as Limits
+use mathlib.Core.Path.{◌≡◌}
+use Prim.Native.Nat.{◌*◌, ◌-◌, ◌≤◌}
+use lib.ListN.{length, take}
 use Rattle.format.specs.Bytes.{bytes}
 use Rattle.rules.specs.Answers.{response_lines}
 use Rattle.writing.specs.Lengths.{longest_line}
-use Rattle.writing.proofs.Responses.{response, response_more}
+use Rattle.writing.proofs.Responses.{response}
 use Rattle.writing.proofs.report.responses_length.Given as goal
 
 abbrev pub invariant-loop-g : goal.invariant-loop-g

@@ -1,14 +1,12 @@
 -- `put_row` meets its contract. The loop's invariant: the first `i` lines are written.
-use mathlib.Core.Path.{◌≡◌, refl, sym, ap, ◌∙◌}
+use mathlib.Core.Path.{◌≡◌, refl, ap}
 use mathlib.Core.List.{List, map}
 use Prim.Native.Nat.{ℕ, ◌+◌, ◌-◌, ◌≤◌, ◌<◌}
 use native.Mathlib.Omega.{arith}
-use lib.ListN.{length, take, get_or, length-map}
-use borrow.Author.Rules.{rules}
+use lib.ListN.{length, take, get_or}
 use Rattle.schedule.specs.Limits as Limits
 use Rattle.rules.specs.Answers.{row_text}
 use Rattle.writing.specs.declared.row.Row.{Row}
-use Rattle.writing.specs.Written.{Written}
 use Rattle.writing.specs.Row.{running_of, running_in}
 use Rattle.writing.proofs.Writing.{nothing, named, begins, room, both, keeps}
 use Rattle.writing.proofs.Rows.{no_run, run, run_more, run_fits}

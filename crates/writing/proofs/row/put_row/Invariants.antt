@@ -1,16 +1,11 @@
-use mathlib.Core.Path.{◌≡◌, refl, sym, ap, ◌∙◌}
-use mathlib.Core.List.{List, map}
-use Prim.Native.Nat.{ℕ, ◌+◌, ◌-◌, ◌≤◌, ◌<◌}
-use native.Mathlib.Omega.{arith}
-use lib.ListN.{length, take, get_or, length-map}
-use borrow.Author.Rules.{rules}
-use Rattle.schedule.specs.Limits as Limits
+use mathlib.Core.Path.{◌≡◌}
+use mathlib.Core.List.{map}
+use Prim.Native.Nat.{◌-◌, ◌≤◌}
+use lib.ListN.{length, take}
 use Rattle.rules.specs.Answers.{row_text}
-use Rattle.writing.specs.declared.row.Row.{Row}
 use Rattle.writing.specs.Written.{Written}
-use Rattle.writing.specs.Row.{running_of, running_in}
-use Rattle.writing.proofs.Writing.{nothing, named, begins, room, both, keeps}
-use Rattle.writing.proofs.Rows.{no_run, run, run_more, run_fits}
+use Rattle.writing.specs.Row.{running_of}
+use Rattle.writing.proofs.Rows.{run}
 use Rattle.writing.proofs.row.put_row.Given as goal
 
 abbrev pub invariant-loop-i : goal.invariant-loop-i

@@ -9,7 +9,6 @@ use Rattle.writing.specs.Line.{pair}
 use Rattle.writing.specs.Row.{running_of}
 use Rattle.writing.proofs.Writing.{named, begins, room, both}
 use Rattle.writing.proofs.Rows.{run_is}
-use borrow.Author.Rules.{rules}
 use Rattle.writing.proofs.row.put_run.Goals as goal
 
 pub put_bytes-first-requires : goal.put_bytes-first-requires

@@ -1,12 +1,11 @@
 -- `row_length` meets its contract. The loop's invariant: `n` is the length of the first `i` lines, each of which is at most the longest.
-use mathlib.Core.Path.{◌≡◌, refl, sym, ap, ◌∙◌}
+use mathlib.Core.Path.{◌≡◌, refl, ap, ◌∙◌}
 use mathlib.Core.List.{map}
-use Prim.Native.Nat.{ℕ, ◌*◌, ◌-◌, ◌≤◌, ◌<◌}
+use Prim.Native.Nat.{ℕ, ◌-◌, ◌<◌}
 use native.Mathlib.Omega.{arith}
-use lib.ListN.{length, take, get_or, length-append, length-map}
+use lib.ListN.{length, take, get_or, length-append}
 use Rattle.schedule.specs.Limits as Limits
 use Rattle.rules.specs.Answers.{row_text}
-use Rattle.writing.specs.Lengths.{longest_run}
 use Rattle.writing.specs.Row.{running_of}
 use Rattle.writing.proofs.Rows.{no_run, run, run_more}
 use Rattle.writing.proofs.row.row_length.Goals as goal

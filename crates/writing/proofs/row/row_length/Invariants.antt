@@ -1,13 +1,11 @@
-use mathlib.Core.Path.{◌≡◌, refl, sym, ap, ◌∙◌}
+use mathlib.Core.Path.{◌≡◌}
 use mathlib.Core.List.{map}
-use Prim.Native.Nat.{ℕ, ◌*◌, ◌-◌, ◌≤◌, ◌<◌}
-use native.Mathlib.Omega.{arith}
-use lib.ListN.{length, take, get_or, length-append, length-map}
-use Rattle.schedule.specs.Limits as Limits
+use Prim.Native.Nat.{◌*◌, ◌-◌, ◌≤◌}
+use lib.ListN.{length, take}
 use Rattle.rules.specs.Answers.{row_text}
 use Rattle.writing.specs.Lengths.{longest_run}
 use Rattle.writing.specs.Row.{running_of}
-use Rattle.writing.proofs.Rows.{no_run, run, run_more}
+use Rattle.writing.proofs.Rows.{run}
 use Rattle.writing.proofs.row.row_length.Given as goal
 
 abbrev pub invariant-loop-i : goal.invariant-loop-i

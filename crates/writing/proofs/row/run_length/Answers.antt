@@ -2,7 +2,6 @@
 use native.Mathlib.Omega.{arith}
 use lib.ListN.{length-append}
 use Rattle.rules.specs.Answers.{row_text}
-use borrow.Author.Rules.{rules}
 use Rattle.writing.proofs.row.run_length.Goals as goal
 
 pub overflow_add-result : goal.overflow_add-result

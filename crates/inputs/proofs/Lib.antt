@@ -1,0 +1,3 @@
+pub mod AfterRead
+pub mod Whole
+pub mod Lengths
