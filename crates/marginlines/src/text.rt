@@ -9,7 +9,7 @@ ghost use Rattle.marginlines.specs.Lines.{longest_lines, most_counted};
 use crate::line::{lines_length, put_lines};
 use table::Table;
 
-// No text of margins is longer: `margin-bytes` and `every-margin-fits` of crate `margin`.
+// No text of margins is longer: `margin_bytes` and `every_margin_fits` of crate `margin`.
 pub const MARGIN_BYTES: usize = 364;
 
 pub fn graphs_length(
