@@ -4,8 +4,8 @@ use Rattle.std.specs.declared.io.Error.{Error}
 use mathlib.Core.Path.{◌≡◌, refl, sym, subst}
 use Prim.Native.Nat.{ℕ, zero, suc, ◌+◌, ◌≤◌}
 use native.Mathlib.Omega.{arith}
-use Rattle.inputs.specs.declared.reading.Reading.{Reading}
-use Rattle.inputs.specs.declared.reading.Reading.TheVariants.{More, Ended, Failed}
+use Rattle.inputs.specs.declared.reads.Reading.{Reading}
+use Rattle.inputs.specs.declared.reads.Reading.TheVariants.{More, Ended, Failed}
 use Rattle.inputs.specs.Inputs.{counted, after_read, Read, input_after, Further}
 
 some_counted : (n : ℕ) → (n ≡ 0 → ⊥) → More n ≡ counted n

@@ -6,8 +6,8 @@ use native.Mathlib.Omega.{arith}
 use lib.ListN.{length, get_or}
 use Rattle.schedule.proofs.Tests.{by_lt}
 use Rattle.scanning.specs.Positions.{far}
-use Rattle.inputs.specs.declared.reading.Taken.{Taken}
-use Rattle.inputs.specs.declared.reading.Taken.TheVariants as Taken
+use Rattle.inputs.specs.declared.reads.Taken.{Taken}
+use Rattle.inputs.specs.declared.reads.Taken.TheVariants as Taken
 use Rattle.inputs.specs.Inputs.{IsLength, AreLengths}
 
 pub is_length : (bytes : ℕ) (r : Taken) → bytes < far → IsLength bytes r

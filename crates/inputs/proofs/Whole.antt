@@ -2,10 +2,10 @@
 use mathlib.Core.Path.{◌≡◌, refl}
 use Prim.Native.Nat.{ℕ, zero, suc, ◌≤◌, ◌<◌}
 use borrow.Author.Tests.{lt-ltb, le-ltb}
-use Rattle.inputs.specs.declared.reading.Input.{Input}
-use Rattle.inputs.specs.declared.reading.Input.TheVariants as Input
-use Rattle.inputs.specs.declared.reading.Taken.{Taken}
-use Rattle.inputs.specs.declared.reading.Taken.TheVariants as Taken
+use Rattle.inputs.specs.declared.reads.Input.{Input}
+use Rattle.inputs.specs.declared.reads.Input.TheVariants as Input
+use Rattle.inputs.specs.declared.reads.Taken.{Taken}
+use Rattle.inputs.specs.declared.reads.Taken.TheVariants as Taken
 use Rattle.inputs.specs.Inputs.{filled_by, ended_by}
 
 pub too_few : {input : Input} {m n : ℕ} → input ≡ Input.Bytes m → m < n → Taken.Wrong ≡ filled_by input n

@@ -2,11 +2,11 @@
 use Rattle.std.specs.Prelude.{cond, List, ℕ, zero, suc, ◌+◌, ◌≤◌, ◌<◌, ltb, min, length, get_or, Result, Ok, Err}
 use Rattle.std.specs.declared.io.Error.{Error}
 use Rattle.scanning.specs.Positions.{far}
-use Rattle.inputs.specs.declared.reading.Input.{Input}
-use Rattle.inputs.specs.declared.reading.Progress.{Progress}
-use Rattle.inputs.specs.declared.reading.Taken.{Taken}
-use Rattle.inputs.specs.declared.reading.Reading.{Reading}
-use Rattle.inputs.specs.declared.reading.Reading.TheVariants.{More, Ended, Failed}
+use Rattle.inputs.specs.declared.reads.Input.{Input}
+use Rattle.inputs.specs.declared.reads.Progress.{Progress}
+use Rattle.inputs.specs.declared.reads.Taken.{Taken}
+use Rattle.inputs.specs.declared.reads.Reading.{Reading}
+use Rattle.inputs.specs.declared.reads.Reading.TheVariants.{More, Ended, Failed}
 
 -- so many bytes: none is the end
 abbrev pub counted : ℕ → Reading

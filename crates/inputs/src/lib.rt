@@ -1,8 +1,8 @@
 // Reading an input, and tables out of one.
 #![tactic(auto)]
 
-mod reading;
+mod reads;
 mod taking;
 
-pub use reading::{Input, PIECE, Reading, Taken, after_read, read_input};
+pub use reads::{Input, PIECE, Reading, Taken, after_read, read_input};
 pub use taking::take_tables;

@@ -4,7 +4,7 @@ ghost use Rattle.schedule.specs.Limits as Limits;
 ghost use Rattle.printing.specs.Batches.{slots_bytes};
 ghost use Rattle.inputs.specs.Inputs.{piece_bytes, IsLength, AreLengths};
 
-use crate::reading::{PIECE, Taken, ended, filled, read_input};
+use crate::reads::{PIECE, Taken, ended, filled, read_input};
 use printing::{SLOT, least};
 use std::io::Read;
 

@@ -1,6 +1,6 @@
 -- Each read is behind the bytes that are there, and within the space.
 use Rattle.std.proofs.Common.{length, ◌-◌, ◌≡◌, ◌≤◌}
-use Rattle.inputs.proofs.reading.read_input.Given as goal
+use Rattle.inputs.proofs.reads.read_input.Given as goal
 
 abbrev pub invariant-loop-done : goal.invariant-loop-done
 invariant-loop-done g l = (length l.space ≡ length l.initial.space) × (l.done ≤ length l.space)
