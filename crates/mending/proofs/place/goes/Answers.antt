@@ -1,5 +1,6 @@
 -- `goes` meets its contract.
 use mathlib.Core.Path.{◌≡◌, sym, ◌∙◌}
+use borrow.Author.Rules.{rules}
 use mathlib.Core.Bool.{true, false}
 use Rattle.mending.specs.Place.{is_zero}
 use Rattle.mending.proofs.place.goes.Goals as goal
@@ -7,7 +8,7 @@ use Rattle.mending.proofs.place.goes.Goals as goal
 pub returns-then-is_zero : goal.returns-then-is_zero
 returns-then-is_zero c =
     let t : is_zero c.args.p ≡ true = sym c.is_zero.ensures ∙ c.if-is_zero.true in
-    rw t c.is_digit.ensures
+    rw t (search rules)
 
 pub returns : goal.returns
 returns c =
