@@ -1,17 +1,12 @@
--- Whether all of the entries from i on pass a test, one entry at a time.
-use mathlib.Core.Path.{◌≡◌, refl, ◌∙◌, ap}
-use mathlib.Core.Bool.{Bool, true, false}
-use mathlib.Core.List.{List}
-use Prim.Native.Nat.{ℕ, ◌+◌, ◌-◌, ◌<◌, ◌≤◌}
+-- Whether all of some entries pass a test, by their numbers from 0.
+use Rattle.std.proofs.Common.{◌≡◌, refl, ap, ◌∙◌, Bool, ◌&&◌, ℕ, zero, suc, ◌+◌, arith}
+use Rattle.std.specs.List.{list_all, range_with_len}
 use Rattle.schedule.specs.Lists.{all?, tab}
-use Rattle.admission.proofs.LoadLaws.{tab_next, tab_done}
 
-module _ {B : Type 0} (p : B → Bool) (f : ℕ → B) (i n k : ℕ) where
-  pub passes_next : k < n → p (f i) ≡ true → all? p (tab f i (n - k)) ≡ all? p (tab f (i + 1) (n - (k + 1)))
-  passes_next h e = ap (all? p) (tab_next f i n k h) ∙ rw e
+module _ {B : Type 0} (p : B → Bool) (f : ℕ → B) (a : ℕ) where
+  all_from : (i n : ℕ) → list_all (λ k. p (f (a + k))) (range_with_len i n) ≡ all? p (tab f (a + i) n)
+  all_from i zero = refl
+  all_from i (suc n) = let e : a + (i + 1) ≡ suc (a + i) = omega arith in ap (λ b. p (f (a + i)) && b) (all_from (i + 1) n ∙ ap (λ j. all? p (tab f j n)) e)
 
-  pub fails_here : k < n → p (f i) ≡ false → all? p (tab f i (n - k)) ≡ false
-  fails_here h e = ap (all? p) (tab_next f i n k h) ∙ rw e
-
-  pub passes_all : n ≤ k → all? p (tab f i (n - k)) ≡ true
-  passes_all h = ap (all? p) (tab_done f i n k h)
+  pub all_tab : (n : ℕ) → list_all (λ k. p (f (a + k))) (range_with_len 0 n) ≡ all? p (tab f a n)
+  all_tab n = let e : a + 0 ≡ a = omega arith in all_from 0 n ∙ ap (λ j. all? p (tab f j n)) e

@@ -5,4 +5,4 @@ mod admitting;
 mod loads;
 mod paces;
 
-pub use admitting::{Admitted, Verdict, admit};
+pub use admitting::{Admitted, admit};

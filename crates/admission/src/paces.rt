@@ -13,29 +13,17 @@ pub fn within_level(budget: u32, level: u32, period: u32) -> bool
     budget as u64 <= level as u64 * period as u64
 }
 
-pub fn graph_keeps_up(t: Table, x: Graph) -> bool
-    ensures { result ≡ all? (node_keeps_up x.period) (graph_of t.node x).nodes }
+pub fn graph_keeps_up(t: &Table, x: Graph) -> bool
+    ensures { result ≡ all? (node_keeps_up x.period) (graph_of t.now.node x).nodes }
 {
-    let mut k: usize = 0;
-    while k < x.nodes {
+    (0..x.nodes).all(|k| {
         let y = node_of(t, x.first, k);
-        if !within_level(y.budget, y.level, x.period) {
-            return false;
-        }
-        k += 1;
-    }
-    true
+        within_level(y.budget, y.level, x.period)
+    })
 }
 
-pub fn keeps_up(t: Table) -> bool
-    ensures { result ≡ keeps_up (table_of t) }
+pub fn keeps_up(t: &Table) -> bool
+    ensures { result ≡ keeps_up (table_of t.now) }
 {
-    let mut g: usize = 0;
-    while g < t.graphs {
-        if !graph_keeps_up(t, graph_of(t, g)) {
-            return false;
-        }
-        g += 1;
-    }
-    true
+    (0..t.graphs).all(|g| graph_keeps_up(t, graph_of(t, g)))
 }

@@ -3,9 +3,9 @@
 // rows at the first instants, what reading comes to, or the same of each cut of the table.
 #![tactic(auto)]
 
-ghost use Rattle.std.specs.Prelude.{◌<◌, ◌≤◌, length, IfOk};
+ghost use Rattle.std.specs.Prelude.{◌≤◌, length, IfOk};
 
-use admission::{Admitted, Verdict};
+use admission::Admitted;
 use format::Refusal;
 use rules::Answer;
 use std::io;
@@ -17,184 +17,135 @@ const TEXT_ROOM: usize = 4096;
 
 const CASES_ROOM: usize = 65536;
 
-const REPORT: u8 = b'#';
-
-const ROWS: u8 = b'%';
-
-const READING: u8 = b'@';
-
-const CUTS: u8 = b'$';
-
 // Past the stop of every table whose rows are printed here. After them come the last instant and the one past it.
 const INSTANTS: u64 = 10;
 
-fn print_field(rt: HostRuntime, name: &[u8], v: u32, end: &[u8]) -> io::Result<()> {
-    rt.write_all(name)?;
-    rt.print(v)?;
-    rt.write_all(end)
+const LAST_INSTANT: u64 = Table::INSTANT_TO as u64;
+
+// What is printed of a case.
+#[derive(Clone, Copy)]
+enum Mark {
+    Report,
+    Rows,
+    Reading,
+    Cuts,
+}
+
+impl Mark {
+    // None of a byte of a table, which is no fault.
+    fn of(byte: u8) -> Option<Mark> {
+        match byte {
+            b'#' => Some(Mark::Report),
+            b'%' => Some(Mark::Rows),
+            b'@' => Some(Mark::Reading),
+            b'$' => Some(Mark::Cuts),
+            _ => None,
+        }
+    }
 }
 
 // A refusal's number, line and column.
-fn print_refusal(rt: HostRuntime, f: Refusal, between: &[u8]) -> io::Result<()> {
-    print_field(rt, b"answer=", writing::number_of(f), between)?;
-    print_field(rt, b"line=", writing::line_of(f), between)?;
-    print_field(rt, b"column=", writing::column_of(f), b"\n")
+fn print_refusal(rt: HostRuntime, f: Refusal, between: char) -> io::Result<()> {
+    let number = writing::number_of(f);
+    let line = writing::line_of(f);
+    let column = writing::column_of(f);
+    println!(rt; "answer={number}{between}line={line}{between}column={column}")
 }
 
-fn print_text(rt: HostRuntime, buffer: &[u8], n: usize) -> io::Result<()> {
-    if n <= buffer.len() {
-        rt.write_all(&buffer[..n])?;
-    }
-    Ok(())
-}
-
-fn print_answer(rt: HostRuntime, a: Answer, buffer: &[u8]) -> io::Result<()> {
-    match a {
-        Answer::Text(n) => print_text(rt, buffer, n),
-        Answer::Refused(f) => print_refusal(rt, f, b"\n"),
+fn print_answer(rt: HostRuntime, answer: Answer, buffer: &[u8]) -> io::Result<()> {
+    match answer {
+        Ok(n) => rt.write_all(buffer.get(..n).unwrap_or_default()),
+        Err(f) => print_refusal(rt, f, '\n'),
     }
 }
 
+// A label is any bytes, and so it is written and not formatted.
 fn print_report(rt: HostRuntime, label: &[u8], table: &[u8]) -> io::Result<()> {
     let mut space = [0u8; TEXT_ROOM];
-    rt.write_all(b"# ")?;
+    print!(rt; "# ")?;
     rt.write_all(label)?;
-    rt.write_all(b"\n")?;
-    let a = sheet::report(table, &mut space);
-    print_answer(rt, a, &space)
+    println!(rt)?;
+    let answer = sheet::report(table, &mut space);
+    print_answer(rt, answer, &space)
 }
 
 fn print_row(rt: HostRuntime, label: &[u8], table: &[u8], instant: u64) -> io::Result<()> {
     let mut space = [0u8; TEXT_ROOM];
-    rt.write_all(b"# ")?;
+    print!(rt; "# ")?;
     rt.write_all(label)?;
-    rt.write_all(b", row at ")?;
-    rt.print(instant)?;
-    rt.write_all(b"\n")?;
-    let r = sheet::row(table, instant, &mut space);
-    let answer = r.answer;
+    println!(rt; ", row at {instant}")?;
+    let answer = sheet::row(table, instant, &mut space).map(|text| text.length);
     print_answer(rt, answer, &space)
 }
 
+// The rows at the first instants, at the last one, and at the one past it.
 fn print_rows(rt: HostRuntime, label: &[u8], table: &[u8]) -> io::Result<()> {
-    let mut t: u64 = 0;
-    while t < INSTANTS {
-        print_row(rt, label, table, t)?;
-        t += 1;
+    for instant in 0..INSTANTS {
+        print_row(rt, label, table, instant)?;
     }
-    Ok(())
-}
-
-// At the last instant, and at the one past it.
-fn print_far_rows(rt: HostRuntime, label: &[u8], table: &[u8]) -> io::Result<()> {
-    print_row(rt, label, table, Table::INSTANT_TO as u64)?;
-    print_row(rt, label, table, Table::INSTANT_TO as u64 + 1)
+    print_row(rt, label, table, LAST_INSTANT)?;
+    print_row(rt, label, table, LAST_INSTANT + 1)
 }
 
 // `answer=0 hyperperiod=` of an admitted table, and else `answer=` with the number, `line=` and `column=`.
-fn print_admitted(rt: HostRuntime, a: Admitted) -> io::Result<()> {
-    let verdict = a.verdict;
-    match verdict {
-        Verdict::Passed => {
-            print_field(rt, b"answer=", 0, b" ")?;
-            print_field(rt, b"hyperperiod=", a.hyperperiod, b"\n")
-        }
-        Verdict::Refused(f) => print_refusal(rt, f, b" "),
+fn print_admitted(rt: HostRuntime, admitted: Result<Admitted, Refusal>) -> io::Result<()> {
+    match admitted {
+        Ok(a) => println!(rt; "answer=0 hyperperiod={}", a.hyperperiod),
+        Err(f) => print_refusal(rt, f, ' '),
     }
 }
 
 fn print_reading(rt: HostRuntime, label: &[u8], table: &[u8]) -> io::Result<()> {
     rt.write_all(label)?;
-    rt.write_all(b": ")?;
+    print!(rt; ": ")?;
     print_admitted(rt, admission::admit(table))
 }
 
-// The table cut after n bytes.
-fn print_cut(rt: HostRuntime, label: &[u8], table: &[u8], n: usize) -> io::Result<()>
-    requires { n ≤ length table.now }
-{
+// The same of a table that is cut off there.
+fn print_cut(rt: HostRuntime, label: &[u8], cut: &[u8]) -> io::Result<()> {
     rt.write_all(label)?;
-    rt.write_all(b", ")?;
-    rt.print(n)?;
-    rt.write_all(b" bytes: ")?;
-    print_admitted(rt, admission::admit(&table[..n]))
+    print!(rt; ", {} bytes: ", cut.len())?;
+    print_admitted(rt, admission::admit(cut))
 }
 
 fn print_cuts(rt: HostRuntime, label: &[u8], table: &[u8]) -> io::Result<()> {
-    let mut n: usize = 0;
-    while n < table.len() {
-        print_cut(rt, label, table, n)?;
-        n += 1;
+    for n in 0..table.len() {
+        print_cut(rt, label, &table[..n])?;
     }
     Ok(())
 }
 
-fn is_mark(c: u8) -> bool {
-    c == REPORT || c == ROWS || c == READING || c == CUTS
+fn print_as(rt: HostRuntime, mark: Mark, label: &[u8], table: &[u8]) -> io::Result<()> {
+    match mark {
+        Mark::Report => print_report(rt, label, table),
+        Mark::Rows => print_rows(rt, label, table),
+        Mark::Reading => print_reading(rt, label, table),
+        Mark::Cuts => print_cuts(rt, label, table),
+    }
 }
 
-// The first LF from a position on, and the first mark; the end where there is none.
-fn line_feed_from(s: &[u8], from: usize) -> usize
-    requires { from ≤ length s.now }
-    ensures { (from ≤ result) × (result ≤ length s.now) }
+// A case, behind its mark; and the cases that follow it.
+fn print_case<'a>(rt: HostRuntime, mark: Mark, case: &'a [u8]) -> io::Result<&'a [u8]>
+    ensures { IfOk result (λ rest. length rest.now ≤ length case.now) }
 {
-    let mut p = from;
-    while p < s.len() {
-        if s[p] == b'\n' {
-            return p;
-        }
-        p += 1;
-    }
-    p
+    let Some(feed) = case.iter().position(|c| *c == b'\n') else {
+        return Ok(&[]);
+    };
+    let label = &case[..feed];
+    let behind = &case[feed + 1..];
+    let end = behind
+        .iter()
+        .position(|c| Mark::of(*c).is_some())
+        .unwrap_or(behind.len());
+    print_as(rt, mark, label, &behind[..end])?;
+    Ok(&behind[end..])
 }
 
-fn mark_from(s: &[u8], from: usize) -> usize
-    requires { from ≤ length s.now }
-    ensures { (from ≤ result) × (result ≤ length s.now) }
-{
-    let mut p = from;
-    while p < s.len() {
-        if is_mark(s[p]) {
-            return p;
-        }
-        p += 1;
-    }
-    p
-}
-
-fn print_as(rt: HostRuntime, mark: u8, label: &[u8], table: &[u8]) -> io::Result<()> {
-    if mark == REPORT {
-        print_report(rt, label, table)
-    } else if mark == ROWS {
-        print_rows(rt, label, table)?;
-        print_far_rows(rt, label, table)
-    } else if mark == READING {
-        print_reading(rt, label, table)
-    } else {
-        print_cuts(rt, label, table)
-    }
-}
-
-// The case whose mark stands at p, and where it ends.
-fn print_case(rt: HostRuntime, s: &[u8], p: usize) -> io::Result<usize>
-    requires { p < length s.now }
-    ensures { IfOk result (λ end. (p < end) × (end ≤ length s.now)) }
-{
-    let label = p + 1;
-    let feed = line_feed_from(s, label);
-    if feed == s.len() {
-        return Ok(feed);
-    }
-    let table = feed + 1;
-    let end = mark_from(s, table);
-    print_as(rt, s[p], &s[label..feed], &s[table..end])?;
-    Ok(end)
-}
-
+// What begins with no mark is a table whose cuts are printed.
 fn print_cases(rt: HostRuntime, s: &[u8]) -> io::Result<()> {
-    let mut p: usize = 0;
-    while p < s.len() {
-        p = print_case(rt, s, p)?;
+    let mut rest = s;
+    while let Some((mark, case)) = rest.split_first() {
+        rest = print_case(rt, Mark::of(*mark).unwrap_or(Mark::Cuts), case)?;
     }
     Ok(())
 }

@@ -9,8 +9,8 @@ use lib.Seq.{take_at, set_at, append_snoc}
 use borrow.Author.Tests.{le-leb, lt-leb, lt-ltb}
 use Rattle.schedule.specs.Limits as Limits
 use Rattle.schedule.proofs.Tests.{by_lt}
-use Rattle.asking.specs.declared.instants.Instant.{Instant}
-use Rattle.asking.specs.declared.instants.Instant.TheVariants.{At, Misspelled, Unread}
+use Rattle.std.specs.Prelude.{Result, Ok, Err}
+use Rattle.asking.specs.declared.faults.Fault.{Fault}
 use Rattle.asking.specs.declared.lengths.Lengths.{Lengths}
 use Rattle.asking.specs.Instants.{instant_of}
 use Rattle.asking.specs.Lengths.{number_in, no_lengths, count_on, lengths_on, lengths_by}
@@ -37,25 +37,23 @@ record Holds (s : Lengths) (p : List ℕ) : Type 0 where
   count : s.count ≡ length p
   list : s.list ≡ filled p
 
-count_on_lem : (s : Lengths) (i : Instant) → (lengths_on s i).count ≡ count_on s.count
-count_on_lem s (At v) = refl
-count_on_lem s Misspelled = refl
-count_on_lem s Unread = refl
+count_on_lem : (s : Lengths) (i : Result ℕ Fault) → (lengths_on s i).count ≡ count_on s.count
+count_on_lem s (Ok v) = refl
+count_on_lem s (Err f) = refl
 
 module _ (s : Lengths) (p : List ℕ) (h : length p < most) (holds : Holds s p) where
-  counted_on : (i : Instant) → (lengths_on s i).count ≡ length (p ++ (number_in i ∷ []))
+  counted_on : (i : Result ℕ Fault) → (lengths_on s i).count ≡ length (p ++ (number_in i ∷ []))
   counted_on i =
       count_on_lem s i ∙ rw (holds.count, le-leb (length p) most (omega arith), length-append p (number_in i ∷ []))
 
-  listed_on : (i : Instant) → (lengths_on s i).list ≡ filled (p ++ (number_in i ∷ []))
-  listed_on (At v) = rw (holds.count, holds.list, lt-ltb (length p) most h) (set_on p h v)
-  listed_on Misspelled = holds.list ∙ next_free p h ∙ filled_on p h 0
-  listed_on Unread = holds.list ∙ next_free p h ∙ filled_on p h 0
+  listed_on : (i : Result ℕ Fault) → (lengths_on s i).list ≡ filled (p ++ (number_in i ∷ []))
+  listed_on (Ok v) = rw (holds.count, holds.list, lt-ltb (length p) most h) (set_on p h v)
+  listed_on (Err f) = holds.list ∙ next_free p h ∙ filled_on p h 0
 
-  on : (i : Instant) → Holds (lengths_on s i) (p ++ (number_in i ∷ []))
+  on : (i : Result ℕ Fault) → Holds (lengths_on s i) (p ++ (number_in i ∷ []))
   on i = record { count = counted_on i; list = listed_on i }
 
-all_held : (is : List Instant) (s : Lengths) (p : List ℕ) → length p + length is ≤ most → Holds s p → Holds (lengths_by s is) (p ++ map number_in is)
+all_held : (is : List (Result ℕ Fault)) (s : Lengths) (p : List ℕ) → length p + length is ≤ most → Holds s p → Holds (lengths_by s is) (p ++ map number_in is)
 all_held [] s p h holds = rw (append-nil p) holds
 all_held (i ∷ is) s p h holds =
     let e : (p ++ (number_in i ∷ [])) ++ map number_in is ≡ p ++ (number_in i ∷ map number_in is) = append_snoc p (number_in i) (map number_in is) in
@@ -77,7 +75,7 @@ module _ (ts : List (List ℕ)) where
       )
 
 -- more than the most are told as one more
-many : (is : List Instant) (s : Lengths) → s.count ≤ most + 1 → most < s.count + length is → (lengths_by s is).count ≡ most + 1
+many : (is : List (Result ℕ Fault)) (s : Lengths) → s.count ≤ most + 1 → most < s.count + length is → (lengths_by s is).count ≡ most + 1
 many [] s h m = omega arith
 many (i ∷ is) s h m =
     many is (lengths_on s i) (by_lt most s.count (λ l. rw (count_on_lem s i, lt-leb s.count most l) h) (λ l. rw (count_on_lem s i, le-leb s.count most l) (omega arith)))

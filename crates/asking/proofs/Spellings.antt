@@ -10,13 +10,13 @@ use Rattle.format.specs.Spelling.{read, digits, number}
 use Rattle.schedule.proofs.Tests.{by_test}
 use Rattle.scanning.specs.Positions.{kept, capped}
 use Rattle.scanning.proofs.ScannerLaws.{digit_value}
-use Rattle.asking.specs.declared.instants.Instant.TheVariants.{Misspelled}
+use Rattle.std.specs.Prelude.{Err}
+use Rattle.asking.specs.declared.faults.Fault.TheVariants.{Misspelled}
 use Rattle.asking.specs.declared.instants.Spelled.{Spelled}
-use Rattle.asking.specs.declared.instants.Spelled.TheVariants as Spelled
 use Rattle.asking.specs.Instants.{instant_by, instant_of, spelled_on, spelled_by, instant_in}
 
 -- once wrong, always wrong
-wrong_stays : (s : List ℕ) → instant_in (spelled_by Spelled.Wrong s) ≡ Misspelled
+wrong_stays : (s : List ℕ) → instant_in (spelled_by Spelled.Wrong s) ≡ Err Misspelled
 wrong_stays [] = refl
 wrong_stays (c ∷ s) = wrong_stays s
 

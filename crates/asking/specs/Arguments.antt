@@ -1,9 +1,10 @@
 -- The command line, and the instant that one of its arguments spells, read byte by byte.
-use Rattle.std.specs.Prelude.{Bool, not, cond, ℕ, zero, suc, eqb}
-use mathlib.Core.List.{List, [], ◌∷◌, ◌++◌, foldl}
+use Rattle.std.specs.Prelude.{Bool, not, cond, ℕ, zero, suc, eqb, Result, Err}
+use Rattle.std.specs.List.{fold}
+use mathlib.Core.List.{List, [], ◌∷◌, ◌++◌}
 use Rattle.schedule.specs.Lists.{all?}
-use Rattle.asking.specs.declared.instants.Instant.{Instant}
-use Rattle.asking.specs.declared.instants.Instant.TheVariants.{Unread}
+use Rattle.asking.specs.declared.faults.Fault.{Fault}
+use Rattle.asking.specs.declared.faults.Fault.TheVariants.{Unread}
 use Rattle.asking.specs.declared.instants.Spelled.{Spelled}
 use Rattle.asking.specs.declared.instants.Spelled.TheVariants.{Nothing}
 use Rattle.asking.specs.declared.arguments.Passed.{Passed}
@@ -32,9 +33,9 @@ passed_on (Within s) c = within_on s c
 passed_on (After s) c = After s
 
 abbrev pub passed_by : Passed → List ℕ → Passed
-passed_by = foldl passed_on
+passed_by = fold passed_on
 
-abbrev pub instant_told : Passed → Instant
-instant_told (Before n) = Unread
-instant_told (Within s) = Unread
+abbrev pub instant_told : Passed → Result ℕ Fault
+instant_told (Before n) = Err Unread
+instant_told (Within s) = Err Unread
 instant_told (After s) = instant_in s

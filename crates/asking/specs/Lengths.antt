@@ -1,41 +1,45 @@
 -- The lengths that the arguments behind `batch` spell: how many they are, and the first of them, as many as the most tables of a call.
-use Rattle.std.specs.Prelude.{Bool, true, false, cond, ℕ, ◌+◌, leb, ltb, set, replicate}
-use mathlib.Core.List.{List, foldl}
+use Rattle.std.specs.Prelude.{Bool, true, false, cond, ℕ, ◌+◌, leb, ltb, set, replicate, Result, Ok, Err}
+use Rattle.std.specs.List.{fold}
+use mathlib.Core.List.{List}
 use Rattle.schedule.specs.Limits as Limits
-use Rattle.asking.specs.declared.instants.Instant.{Instant}
-use Rattle.asking.specs.declared.instants.Instant.TheVariants.{At, Misspelled, Unread}
+use Rattle.asking.specs.declared.faults.Fault.{Fault}
+use Rattle.asking.specs.declared.faults.Fault.TheVariants.{Misspelled, Unread}
 use Rattle.asking.specs.declared.lengths.Lengths.{Lengths}
 use Rattle.asking.specs.Instants.{instant_of}
 
-abbrev pub is_at : Instant → Bool
-is_at (At v) = true
-is_at Misspelled = false
-is_at Unread = false
+abbrev pub is_at : Result ℕ Fault → Bool
+is_at (Ok v) = true
+is_at (Err f) = false
 
 -- an argument that is a number
 abbrev pub is_number : List ℕ → Bool
 is_number t = is_at (instant_of t)
 
 -- the number that an argument spells, and 0 where it spells none
-abbrev pub number_in : Instant → ℕ
-number_in (At v) = v
-number_in Misspelled = 0
-number_in Unread = 0
+abbrev pub number_in : Result ℕ Fault → ℕ
+number_in (Ok v) = v
+number_in (Err f) = 0
 
 abbrev pub no_lengths : Lengths
-no_lengths = record { count = 0; misspelled = false; unread = false; list = replicate (Limits.tables).to 0 }
+no_lengths = record { count = 0; list = replicate (Limits.tables).to 0; spelled = Ok tt }
 
 -- one more; one past the most tables of a call stands for all that are more
 abbrev pub count_on : ℕ → ℕ
 count_on n = cond (leb n (Limits.tables).to) (n + 1) n
 
--- with one argument more, and with all of a list
-abbrev pub lengths_on : Lengths → Instant → Lengths
-lengths_on s (At v) =
-    let list : List ℕ = cond (ltb s.count (Limits.tables).to) (set s.list s.count v) s.list in
-    record { count = count_on s.count; misspelled = s.misspelled; unread = s.unread; list = list }
-lengths_on s Misspelled = record { count = count_on s.count; misspelled = true; unread = s.unread; list = s.list }
-lengths_on s Unread = record { count = count_on s.count; misspelled = s.misspelled; unread = true; list = s.list }
+-- the fault of one argument more: one that was not handed over is told before one that is misspelled
+abbrev pub fault_on : Result (Unit {0}) Fault → Fault → Fault
+fault_on (Ok u) f = f
+fault_on (Err Misspelled) f = f
+fault_on (Err Unread) f = Unread
 
-abbrev pub lengths_by : Lengths → List Instant → Lengths
-lengths_by = foldl lengths_on
+-- with one argument more, and with all of a list
+abbrev pub lengths_on : Lengths → Result ℕ Fault → Lengths
+lengths_on s (Ok v) =
+    let list : List ℕ = cond (ltb s.count (Limits.tables).to) (set s.list s.count v) s.list in
+    record { count = count_on s.count; list = list; spelled = s.spelled }
+lengths_on s (Err f) = record { count = count_on s.count; list = s.list; spelled = Err (fault_on s.spelled f) }
+
+abbrev pub lengths_by : Lengths → List (Result ℕ Fault) → Lengths
+lengths_by = fold lengths_on

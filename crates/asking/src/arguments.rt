@@ -1,9 +1,10 @@
 // The instant out of the command line: all arguments end to end, each ended by a zero byte, read in pieces. That is how an argument is read
 // that is too long for a room of its own.
 ghost use Rattle.std.specs.Prelude.{◌≡◌};
-ghost use Rattle.asking.specs.Arguments.{within_on, before_on, passed_on, passed_by, instant_told};
+ghost use Rattle.asking.specs.Arguments.{within_on, passed_on, passed_by, instant_told};
 
-use crate::instants::{Instant, Spelled, instant_in, spelled_on};
+use crate::faults::Fault;
+use crate::instants::{Spelled, instant_in, spelled_on};
 
 // How far the command line has been read: so many arguments end before the one asked for begins; within it; after it.
 #[derive(Clone, Copy)]
@@ -23,25 +24,14 @@ pub fn within_on(s: Spelled, c: u8) -> Passed
     }
 }
 
-pub fn before_on(n: usize, c: u8) -> Passed
-    ensures { result ≡ before_on n c }
-{
-    if n == 0 {
-        return within_on(Spelled::Nothing, c);
-    }
-    if c == 0 {
-        Passed::Before(n - 1)
-    } else {
-        Passed::Before(n)
-    }
-}
-
 // One byte more.
 pub fn passed_on(p: Passed, c: u8) -> Passed
     ensures { result ≡ passed_on p c }
 {
     match p {
-        Passed::Before(n) => before_on(n, c),
+        Passed::Before(0) => within_on(Spelled::Nothing, c),
+        Passed::Before(n) if c == 0 => Passed::Before(n - 1),
+        Passed::Before(n) => Passed::Before(n),
         Passed::Within(s) => within_on(s, c),
         Passed::After(s) => Passed::After(s),
     }
@@ -51,22 +41,15 @@ pub fn passed_on(p: Passed, c: u8) -> Passed
 pub fn passed_by(p: Passed, piece: &[u8]) -> Passed
     ensures { result ≡ passed_by p piece.now }
 {
-    let mut passed = p;
-    let mut i: usize = 0;
-    while i < piece.len() {
-        passed = passed_on(passed, piece[i]);
-        i += 1;
-    }
-    passed
+    piece.iter().fold(p, |passed, c| passed_on(passed, *c))
 }
 
 // Only an argument that was read to its end is one.
-pub fn instant_told(p: Passed) -> Instant
+pub fn instant_told(p: Passed) -> Result<u32, Fault>
     ensures { result ≡ instant_told p }
 {
     match p {
-        Passed::Before(_) => Instant::Unread,
-        Passed::Within(_) => Instant::Unread,
         Passed::After(s) => instant_in(s),
+        Passed::Before(_) | Passed::Within(_) => Err(Fault::Unread),
     }
 }

@@ -2,15 +2,15 @@
 #![tactic(auto)]
 
 mod arguments;
-mod files;
+mod faults;
 mod instants;
 mod lengths;
-mod outputs;
-mod plains;
 mod questions;
-mod rewrites;
+mod words;
 
 pub use arguments::{Passed, instant_told, passed_by};
-pub use instants::{Instant, instant_of};
+pub use faults::Fault;
+pub use instants::instant_of;
 pub use lengths::{Lengths, lengths_on, no_lengths};
-pub use questions::{Asked, Question, WORD_ROOM, question_of};
+pub use questions::{Account, Asked, Question, question_of};
+pub use words::WORD_ROOM;

@@ -1,36 +1,25 @@
 -- Tables are answered one after another: what is still to be made, and what it means for the buffer and the answers that are there.
 use mathlib.Core.Path.{◌≡◌, refl, sym, ap, subst, ◌∙◌}
 use mathlib.Core.List.{List, [], ◌∷◌, ◌++◌, map}
-use Prim.Native.Nat.{ℕ, zero, suc, ◌+◌, ◌-◌, ◌*◌, ◌/◌, ◌≤◌, ◌<◌}
+use Prim.Native.Nat.{ℕ, zero, suc, ◌+◌, ◌-◌, ◌*◌, ◌≤◌, ◌<◌}
 use native.Mathlib.Omega.{arith}
 use native.Mathlib.Nat.{mul-div-le, suc-mul}
 use lib.ListN.{length, take, drop, get_or, set, replicate, length-append, length-set, length-drop, drop_of_length-le, take-append-drop}
 use lib.Seq.{length-take-le, drop-cons, drop-drop}
 use Rattle.schedule.specs.Limits as Limits
-use Rattle.rules.specs.declared.Answer.{Answer}
-use lib.Dec.{eqb}
-use borrow.Author.Tests.{le-leb, lt-leb, eq-eqb, ne_eqb}
+use borrow.Author.Tests.{le-leb, lt-leb}
 use Rattle.schedule.proofs.Tests.{by_lt}
 use Rattle.rules.specs.Answers.{Reply, says, refuses, report_of, fitted, left, Call, call_of}
 use Rattle.rules.specs.Batch.{total, parted, share_length, calls_by, answers_in, shares_in}
 use Rattle.sheet.specs.declared.exports.PhalandrixAnswer.{PhalandrixAnswer}
 use Rattle.sheet.specs.Exports.{told_of}
 use Rattle.sheet.specs.Exports as Single
-use Rattle.batch.specs.Told.{no_answer, filled_up, together}
+use Rattle.batch.specs.Told.{no_answer, filled_up}
 use Rattle.batch.proofs.Placing.{placed, with_part, length_placed, dropped, goes_on, set_placed}
 
 -- the next length, and those behind it
 pub total_next : (ls : List ℕ) (i : ℕ) → i < length ls → total (drop i ls) ≡ get_or ls i 0 + total (drop (i + 1) ls)
 total_next ls i h = let e : i + 1 ≡ suc i = omega arith in rw (e, drop-cons ls i 0 h)
-
-pub total_done : (ls : List ℕ) (i : ℕ) → length ls ≤ i → total (drop i ls) ≡ 0
-total_done ls i h = rw (drop_of_length-le ls h)
-
--- all lengths add up to the bytes where nothing is left
-pub none_left : (t left bytes : ℕ) → t + left ≡ bytes → eqb left 0 ≡ eqb t bytes
-none_left t left bytes e =
-    by_lt 0 left (λ h. ne_eqb left 0 (λ z. omega arith) ∙ sym (ne_eqb t bytes (λ z. omega arith)))
-    (λ h. eq-eqb left 0 (omega arith) ∙ sym (eq-eqb t bytes (omega arith)))
 
 -- a call leaves its share as long as it was
 pub call_length : (share : List ℕ) (r : Reply) → length (call_of share r).buffer ≡ length share

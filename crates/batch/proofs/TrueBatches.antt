@@ -1,6 +1,6 @@
 -- What the promise of a call says further: demand 3 for each table whose answer is 0, and one result.
-use mathlib.Core.Path.{◌≡◌, refl, sym, ap, subst, ◌∙◌}
-use mathlib.Core.Bool.{Bool, true, false, ◌&&◌}
+use mathlib.Core.Path.{◌≡◌, sym, ap, subst, ◌∙◌}
+use mathlib.Core.Bool.{true, false}
 use mathlib.Core.List.{List, [], ◌∷◌, ◌++◌, map}
 use Prim.Native.Nat.{ℕ, zero, suc, ◌<◌, ◌≤◌}
 use native.Mathlib.Omega.{arith}
@@ -13,7 +13,7 @@ use Rattle.schedule.proofs.Tests.{and_l, and_r, T_true, true_T}
 use Rattle.format.specs.declared.Refusal.TheVariants.{WrongLengths}
 use Rattle.rules.specs.Answers.{report_of}
 use Rattle.rules.specs.Demands.{TrueReport}
-use Rattle.rules.specs.Batch.{Batch, total, add_up, parted, share_length, calls_by, answers_in, batch_by, batch_of}
+use Rattle.rules.specs.Batch.{total, add_up, parted, share_length, calls_by, answers_in, batch_by, batch_of}
 use Rattle.rules.proofs.TrueReports.{an_answered_report_is_true}
 use Rattle.sheet.specs.declared.exports.PhalandrixAnswer.{PhalandrixAnswer}
 use Rattle.sheet.specs.Exports.{told_of}

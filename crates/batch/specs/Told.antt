@@ -3,7 +3,6 @@ use Rattle.std.specs.Prelude.{◌≡◌, List, [], ◌++◌, map, ℕ, ◌-◌, 
 use Rattle.schedule.specs.Limits as Limits
 use Rattle.format.specs.declared.Refusal.{Refusal}
 use Rattle.format.specs.Refusals.{number_of, line_of, column_of}
-use Rattle.rules.specs.declared.Answer.{Answer}
 use Rattle.rules.specs.Answers.{report_of}
 use Rattle.rules.specs.Demands.{TrueReport}
 use Rattle.rules.specs.Batch.{Answered, answers, refuses, Batch, parted, share_length, calls_by, joined}

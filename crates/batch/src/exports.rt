@@ -1,7 +1,7 @@
 // The call as C takes it; phalandrix_c exports it. A slice passes as a pointer and a length, and the answers by value.
 ghost use Rattle.std.specs.Prelude.{◌≡◌};
 ghost use Rattle.rules.specs.Batch.{batch_of};
-ghost use Rattle.batch.specs.Told.{Told, TrueReports, refused_batch};
+ghost use Rattle.batch.specs.Told.{Told, TrueReports};
 
 use crate::lengths::is_batch;
 use crate::shares::{no_answer, shared_out};
@@ -20,16 +20,20 @@ pub struct PhalandrixBatch {
     pub answers: [PhalandrixAnswer; Table::TABLES],
 }
 
-pub fn refused(r: Refusal) -> PhalandrixBatch
-    ensures { result ≡ refused_batch r }
-{
-    let none = no_answer();
-    PhalandrixBatch {
-        number: writing::number_of(r),
-        line: writing::line_of(r),
-        column: writing::column_of(r),
-        count: 0,
-        answers: [none; Table::TABLES],
+impl From<Refusal> for PhalandrixBatch {
+    ghost use Rattle.batch.specs.Told.{refused_batch};
+
+    ghost from_gives = { λ r b. b ≡ refused_batch r };
+
+    fn from(r: Refusal) -> PhalandrixBatch {
+        let none = no_answer();
+        PhalandrixBatch {
+            number: writing::number_of(r),
+            line: writing::line_of(r),
+            column: writing::column_of(r),
+            count: 0,
+            answers: [none; Table::TABLES],
+        }
     }
 }
 
@@ -40,7 +44,7 @@ pub fn phalandrix_batch(tables: &[u8], lengths: &[usize], buffer: &mut [u8]) -> 
     ensures least_true { TrueReports result tables.now lengths.now }
 {
     if !is_batch(tables, lengths) {
-        return refused(Refusal::WrongLengths);
+        return PhalandrixBatch::from(Refusal::WrongLengths);
     }
     shared_out(tables, lengths, buffer)
 }

@@ -9,14 +9,11 @@ pub fn adds_up(bytes: usize, lengths: &[usize]) -> bool
     ensures { result ≡ eqb (total lengths.now) bytes }
 {
     let mut left = bytes;
-    let mut i: usize = 0;
-    while i < lengths.len() {
-        let l = lengths[i];
-        if left < l {
+    for length in lengths {
+        if left < *length {
             return false;
         }
-        left -= l;
-        i += 1;
+        left -= *length;
     }
     left == 0
 }
@@ -25,11 +22,6 @@ pub fn is_batch(tables: &[u8], lengths: &[usize]) -> bool
     ensures { result ≡ add_up tables.now lengths.now }
 {
     let count = lengths.len();
-    if count < Table::TABLES_FROM as usize {
-        return false;
-    }
-    if Table::TABLES < count {
-        return false;
-    }
-    adds_up(tables.len(), lengths)
+    let few = Table::TABLES_FROM as usize <= count && count <= Table::TABLES;
+    few && adds_up(tables.len(), lengths)
 }

@@ -32,14 +32,12 @@ pub fn shared_out(tables: &[u8], lengths: &[usize], buffer: &mut [u8]) -> Phalan
     let mut answers = [none; Table::TABLES];
     let mut at: usize = 0;
     let mut start: usize = 0;
-    let mut i: usize = 0;
-    while i < count {
-        let end = at + lengths[i];
+    for (i, length) in lengths.iter().enumerate() {
+        let end = at + *length;
         let stop = start + size;
         answers[i] = phalandrix_report(&tables[at..end], &mut buffer[start..stop]);
         at = end;
         start = stop;
-        i += 1;
     }
     PhalandrixBatch {
         number: 0,

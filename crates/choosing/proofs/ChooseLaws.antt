@@ -1,22 +1,26 @@
 -- One head more looked at, and one server job more chosen.
-use mathlib.Core.Path.{◌≡◌, refl}
+use mathlib.Core.Path.{◌≡◌, refl, ◌∙◌}
 use mathlib.Core.List.{List}
-use Prim.Native.Nat.{ℕ, zero, suc, ◌+◌, ◌*◌, ◌-◌, ◌%◌, ◌≤◌, ◌<◌}
+use Prim.Native.Nat.{ℕ, zero, suc, ◌+◌, ◌*◌, ◌-◌, ◌%◌, ◌≤◌, ◌<◌, min}
 use native.Mathlib.Numerals.{add-one}
 use native.Mathlib.Omega.{arith}
-use lib.ListN.{get_or, set}
+use lib.ListN.{get_or, set, length, take}
 use borrow.Author.Tests.{lt-ltb, le-ltb, eq-eqb, ne_eqb}
 use Rattle.window.specs.Entries.{window, last_key, further}
+use Rattle.window.proofs.LoopLaws.{first_item}
 use Rattle.window.specs.Choosing.{ready_of, head_from, best_from, Picks, place_of, picks, Picked}
 
-module _ (heads : List ℕ) (from i : ℕ) {best k : ℕ} (e : best ≡ best_from heads from i) (f : k ≡ head_from heads from i) where
-  pub best_more : k < best → k ≡ best_from heads from (i + 1)
-  unfolding best_from
-  best_more h = rw (add-one i, ← e, ← f) (omega arith)
+module _ (heads : List ℕ) (from n i : ℕ) (h : i < length (take n heads)) where
+  pub head_below : {k : ℕ} → get_or (take n heads) i 0 < from → k ≡ last_key → k ≡ head_from heads from i
+  head_below l e = let q = rw (first_item n heads i 0 h) at l in rw (lt-ltb (get_or heads i 0) from q) e
 
-  pub best_same : best ≤ k → best ≡ best_from heads from (i + 1)
-  unfolding best_from
-  best_same h = rw (add-one i, ← e, ← f) (omega arith)
+  pub head_at : {k : ℕ} → from ≤ get_or (take n heads) i 0 → k ≡ get_or (take n heads) i 0 → k ≡ head_from heads from i
+  head_at l e = let q = rw (first_item n heads i 0 h) at l in rw (le-ltb (get_or heads i 0) from q) (e ∙ first_item n heads i 0 h)
+
+pub best_more : (heads : List ℕ) (from i : ℕ) {best k u : ℕ} → best ≡ best_from heads from i → k ≡ head_from heads from i → u ≡ min best k
+    → u ≡ best_from heads from (i + 1)
+unfolding best_from
+best_more heads from i e f g = rw (add-one i, ← e, ← f) g
 
 -- where no head is left, nothing more is chosen
 module _ (first count level step : List ℕ) (n : ℕ) (run at : List ℕ) (c : Picks) (none : best_from c.heads c.from n ≡ last_key) where
@@ -29,10 +33,6 @@ module _ (first count level step : List ℕ) (n : ℕ) (run at : List ℕ) (c : 
 
   pub all_picked : (m p : ℕ) → c ≡ picks first count level step n run at m → m ≤ p → c ≡ picks first count level step n run at p
   all_picked m p e h = let s : p - m + m ≡ p = omega arith in rw s at (stays m (p - m) e)
-
-pub picked_all : (first count level step : List ℕ) (n : ℕ) (run at : List ℕ) {c : Picks} (m p : ℕ) → c ≡ picks first count level step n run at m
-    → m ≤ p → p ≤ m → c ≡ picks first count level step n run at p
-picked_all first count level step n run at m p e h l = let s : m ≡ p = omega arith in rw s at e
 
 pub picked_of : {c q : Picks} → c ≡ q → Picked q c.count c.run c.at
 picked_of e = rw e (refl, (refl, refl))

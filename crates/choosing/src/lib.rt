@@ -9,30 +9,15 @@ ghost use Rattle.window.specs.Choosing as Mirror;
 
 use table::Table;
 
-// How many of a server's slots are ready: the first `level` of the pending ones.
-pub fn ready_of(count: u8, level: u8) -> u8
-    ensures { result ≡ Mirror.ready_of count level }
-{
-    if count < level { count } else { level }
-}
-
 // The least of the first n heads that is not below `from`; NO_KEY where none is. (Without a branch, so that it is done several at a time.)
 pub fn best_from(heads: &[u32; Table::SERVERS], n: usize, from: u32) -> u32
     requires { n ≤ places }
     ensures { result ≡ Mirror.best_from heads.now from n }
 {
     let mut best = Table::NO_KEY;
-    let mut i: usize = 0;
-    while i < n {
-        let k = if heads[i] < from {
-            Table::NO_KEY
-        } else {
-            heads[i]
-        };
-        if k < best {
-            best = k;
-        }
-        i += 1;
+    for head in &heads[..n] {
+        let k = if *head < from { Table::NO_KEY } else { *head };
+        best = best.min(k);
     }
     best
 }
@@ -55,8 +40,7 @@ pub fn choose<'a>(
     let mut heads = *first;
     let mut taken = [0u8; Table::SERVERS];
     let mut from: u32 = 0;
-    let mut m: usize = 0;
-    while m < p {
+    for m in 0..p {
         let key = best_from(&heads, n, from);
         if key == Table::NO_KEY {
             return m;
@@ -65,12 +49,11 @@ pub fn choose<'a>(
         let d = taken[i] % Table::PENDING as u8;
         run[m] = key;
         at[m] = i as u16 * Table::PENDING as u16 + d as u16;
-        if d + 1 < ready_of(count[i], level[i]) {
+        if d + 1 < count[i].min(level[i]) {
             taken[i] = d + 1;
-            heads[i] = numbers::further(key, step[i]);
+            heads[i] = key.saturating_add(step[i]);
         }
         from = key + 1;
-        m += 1;
     }
-    m
+    p
 }

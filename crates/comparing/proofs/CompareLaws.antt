@@ -1,39 +1,34 @@
--- Comparing: two pending server jobs; a test of each index below a number that another names.
-use mathlib.Core.Path.{◌≡◌, refl, sym, ◌∙◌}
-use mathlib.Core.Bool.{Bool, true, false, not, ◌&&◌, beq}
-use Prim.Native.Nat.{ℕ, ◌≤◌, ◌<◌}
-use native.Mathlib.Omega.{arith}
+-- Comparing: two pending server jobs, and two windows.
+use mathlib.Core.Path.{◌≡◌, refl, ap, ◌∙◌}
+use Prim.Native.Nat.{ℕ, ◌≤◌, min}
 use lib.Dec.{eqb}
-use borrow.Author.Tests.{not-true, not-false}
+use lib.ListN.{length, take}
+use lib.Pointwise.{pointwise}
+use Rattle.std.specs.Prelude.{Option, Some, None}
+use Rattle.std.specs.Option.{option_eq}
 use Rattle.table.specs.declared.Pending.{Pending}
+use Rattle.table.specs.contracts.PendingPartialEq.TheImpl.{eq-value}
+use Rattle.table.specs.declared.Server.{Server}
+use Rattle.window.specs.Entries.{window, no_job, slot_of}
+use Rattle.window.specs.Comparing.{same_pending, same_window}
 use Rattle.window.specs.Loops.{all_below}
-use Rattle.window.specs.Comparing.{same_bool, same_pending}
-use Rattle.window.proofs.LoopLaws.{all_missed}
+use Rattle.window.proofs.LoopLaws.{all_same}
+use Rattle.window.proofs.Chains.{first_same}
 
--- two flags that are equal
-beq_same : (a b : Bool) → beq a b ≡ same_bool a b
-beq_same true true = refl
-beq_same true false = refl
-beq_same false true = refl
-beq_same false false = refl
+-- two pending server jobs that are the same, by the derived test
+derived_same : (x y : Pending) → eq-value.it x y ≡ same_pending x y
+derived_same x y = by_behind x.behind y.behind
+  where
+    by_behind : (a b : Option ℕ) → option_eq eqb a b ≡ same_pending (record { behind = a }) (record { behind = b })
+    by_behind None None = refl
+    by_behind None (Some b) = refl
+    by_behind (Some a) None = refl
+    by_behind (Some a) (Some b) = refl
 
-pub pending_linked : (x y : Pending) → beq x.linked y.linked ≡ true → eqb x.behind y.behind ≡ same_pending x y
-pending_linked x y e = rw (sym (beq_same x.linked y.linked) ∙ e)
-
-pub pending_other : (x y : Pending) → beq x.linked y.linked ≡ false → beq x.linked y.linked ≡ same_pending x y
-pending_other x y e = rw (sym (beq_same x.linked y.linked) ∙ e, e)
-
--- one test after another: the first that fails decides
-pub fails_here : (a b : Bool) (r : Bool) → r ≡ a → not r ≡ true → false ≡ (a && b)
-fails_here a b r e h = rw (← e, not-true r h)
-
-pub passes_here : (a b : Bool) (r : Bool) {x : Bool} → r ≡ a → not r ≡ false → x ≡ b → x ≡ (a && b)
-passes_here a b r e h f = rw (← e, not-false r h) f
-
--- the loop's end
-module _ (p : ℕ → Bool) (most : ℕ) {n : ℕ} (e : most ≡ n) where
-  pub one_differs : (i : ℕ) → i < most → p i ≡ false → false ≡ all_below p n
-  one_differs i h f = rw e at (all_missed p most i h f)
-
-  pub each_same : (i : ℕ) → true ≡ all_below p i → i ≤ most → most ≤ i → true ≡ all_below p n
-  each_same i t h l = let g : i ≡ n = omega arith in rw g at t
+pub window_same : (s r : Server) (n m : ℕ) → m ≡ min n window → m ≤ length s.jobs → m ≤ length r.jobs
+    → pointwise eq-value.it (take m s.jobs) (take m r.jobs) ≡ same_window s r n
+window_same s r n m e h l =
+    first_same eq-value.it no_job m s.jobs r.jobs h l
+    ∙ all_same (λ (d : ℕ). eq-value.it (slot_of s d) (slot_of r d)) (λ (d : ℕ). same_pending (slot_of s d) (slot_of r d)) m
+    (λ d q. derived_same (slot_of s d) (slot_of r d))
+    ∙ ap (all_below (λ (d : ℕ). same_pending (slot_of s d) (slot_of r d))) e

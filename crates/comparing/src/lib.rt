@@ -6,48 +6,26 @@ ghost use Rattle.std.specs.Prelude.{◌≡◌, ◌+◌, ◌*◌, ◌≤◌};
 ghost use Rattle.window.specs.Entries.{places, window, slots};
 ghost use Rattle.window.specs.Comparing as Mirror;
 
-use table::{Pending, Server, Table};
-
-pub fn same_pending(x: Pending, y: Pending) -> bool
-    ensures { result ≡ Mirror.same_pending x y }
-{
-    x.linked == y.linked && x.behind == y.behind
-}
+use table::{Kept, Server, State, Table};
 
 // Whether n slots hold the same links.
-pub fn same_window(s: Server, r: Server, n: u8) -> bool
-    ensures { result ≡ Mirror.same_window s r n }
+pub fn same_window(s: &Server, r: &Server, n: u8) -> bool
+    ensures { result ≡ Mirror.same_window s.now r.now n }
 {
-    let most = numbers::smaller(n as usize, Table::WINDOW);
-    let mut d: usize = 0;
-    while d < most {
-        if !same_pending(s.jobs[d], r.jobs[d]) {
-            return false;
-        }
-        d += 1;
-    }
-    true
+    let most = usize::from(n).min(Table::WINDOW);
+    s.jobs[..most] == r.jobs[..most]
 }
 
 pub fn same_windows(
-    a: [Server; Table::SERVERS],
-    b: [Server; Table::SERVERS],
-    count: [u8; Table::SERVERS],
+    a: &[Server; Table::SERVERS],
+    b: &[Server; Table::SERVERS],
+    count: &[u8; Table::SERVERS],
     n: usize,
 ) -> bool
     requires { n ≤ places }
-    ensures { result ≡ Mirror.same_windows a b count n }
+    ensures { result ≡ Mirror.same_windows a.now b.now count.now n }
 {
-    let mut i: usize = 0;
-    while i < n {
-        let s = a[i];
-        let r = b[i];
-        if !same_window(s, r, count[i]) {
-            return false;
-        }
-        i += 1;
-    }
-    true
+    (0..n).all(|i| same_window(&a[i], &b[i], count[i]))
 }
 
 // Whether the first n entries of two lists of counts are the same.
@@ -55,14 +33,7 @@ pub fn same_counts<'a>(x: &'a [u8; Table::SERVERS], y: &'a [u8; Table::SERVERS],
     requires { n ≤ places }
     ensures { result ≡ Mirror.same_counts x.now y.now n }
 {
-    let mut i: usize = 0;
-    while i < n {
-        if x[i] != y[i] {
-            return false;
-        }
-        i += 1;
-    }
-    true
+    x[..n] == y[..n]
 }
 
 // Whether the first n servers are in the same phase, `hyper` ticks later.
@@ -75,14 +46,7 @@ pub fn same_phases<'a>(
     requires { n ≤ places }
     ensures { result ≡ Mirror.same_phases next.now kept.now hyper n }
 {
-    let mut i: usize = 0;
-    while i < n {
-        if next[i] != numbers::further(kept[i], hyper) {
-            return false;
-        }
-        i += 1;
-    }
-    true
+    (0..n).all(|i| next[i] == kept[i].saturating_add(hyper))
 }
 
 // Whether n budgets left, from `base` on, are the same.
@@ -95,15 +59,8 @@ pub fn same_slots<'a>(
     requires { base + window ≤ slots }
     ensures { result ≡ Mirror.same_slots left.now kept.now base n }
 {
-    let most = numbers::smaller(n as usize, Table::WINDOW);
-    let mut d: usize = 0;
-    while d < most {
-        if left[base + d] != kept[base + d] {
-            return false;
-        }
-        d += 1;
-    }
-    true
+    let most = usize::from(n).min(Table::WINDOW);
+    left[base..base + most] == kept[base..base + most]
 }
 
 // Whether the budgets left of the pending server jobs of the first n servers are the same.
@@ -116,57 +73,32 @@ pub fn same_left<'a>(
     requires { n ≤ places }
     ensures { result ≡ Mirror.same_left left.now kept.now count.now n }
 {
-    let mut i: usize = 0;
-    while i < n {
-        if !same_slots(left, kept, i * Table::WINDOW, count[i]) {
-            return false;
-        }
-        i += 1;
-    }
-    true
+    (0..n).all(|i| same_slots(left, kept, i * Table::WINDOW, count[i]))
 }
 
-// Whether all numbers of two states are the same, `hyper` ticks apart.
-pub fn same_numbers<'a>(
-    count: &'a [u8; Table::SERVERS],
-    kept_count: &'a [u8; Table::SERVERS],
-    unfinished: &'a [u8; Table::SERVERS],
-    kept_unfinished: &'a [u8; Table::SERVERS],
-    unlinked: &'a [u8; Table::SERVERS],
-    kept_unlinked: &'a [u8; Table::SERVERS],
-    next: &'a [u32; Table::SERVERS],
-    kept_next: &'a [u32; Table::SERVERS],
-    left: &'a [u16; Table::SLOTS],
-    kept_left: &'a [u16; Table::SLOTS],
-    hyper: u32,
-    n: usize,
-) -> bool
+// Whether two states are the same in the first n servers, `hyper` ticks apart.
+pub fn same_states(state: &State, kept: &Kept, hyper: u32, n: usize) -> bool
     requires { n ≤ places }
-    ensures { result ≡ Mirror.same_numbers count.now kept_count.now unfinished.now kept_unfinished.now unlinked.now kept_unlinked.now next.now kept_next.now left.now kept_left.now hyper n }
+    ensures { result ≡ Mirror.same_states state.now kept.now hyper n }
 {
-    if !same_counts(count, kept_count, n) {
-        return false;
-    }
-    if !same_counts(unfinished, kept_unfinished, n) {
-        return false;
-    }
-    if !same_counts(unlinked, kept_unlinked, n) {
-        return false;
-    }
-    if !same_phases(next, kept_next, hyper, n) {
-        return false;
-    }
-    same_left(left, kept_left, count, n)
+    same_counts(&state.count, &kept.count, n)
+        && same_counts(&state.unfinished, &kept.unfinished, n)
+        && same_counts(&state.unlinked, &kept.unlinked, n)
+        && same_phases(&state.next, &kept.next, hyper, n)
+        && same_left(&state.left, &kept.left, &state.count, n)
+        && same_windows(&state.servers, &kept.servers, &state.count, n)
 }
 
-// The budgets left of the first n servers, kept.
-pub fn keep_left(kept: &mut [u16; Table::SLOTS], left: &[u16; Table::SLOTS], n: usize)
+// The first n servers of a state, kept.
+pub fn keep(kept: &mut Kept, state: &State, n: usize)
     requires { n ≤ places }
-    ensures { kept.new ≡ Mirror.kept_left kept.old left.now n }
+    ensures { kept.new ≡ Mirror.keep state.now kept.old n }
 {
-    let mut k: usize = 0;
-    while k < n * Table::WINDOW {
-        kept[k] = left[k];
-        k += 1;
-    }
+    kept.servers[..n].copy_from_slice(&state.servers[..n]);
+    let slots = n * Table::WINDOW;
+    kept.left[..slots].copy_from_slice(&state.left[..slots]);
+    kept.count = state.count;
+    kept.unfinished = state.unfinished;
+    kept.unlinked = state.unlinked;
+    kept.next = state.next;
 }

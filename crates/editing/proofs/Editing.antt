@@ -1,10 +1,11 @@
 -- From what a judgement and a read came to, to what a call answers.
-use mathlib.Core.Path.{◌≡◌, refl, sym, ap, subst, ◌∙◌}
+use mathlib.Core.Path.{◌≡◌, refl, sym, ap, ◌∙◌}
+use Rattle.std.proofs.Common.{Ok, Err}
 use mathlib.Core.Bool.{true}
 use mathlib.Core.List.{List}
 use Prim.Native.Nat.{ℕ, ◌≤◌}
 use native.Mathlib.Omega.{arith}
-use lib.ListN.{length, take, drop, length-append}
+use lib.ListN.{length, take, drop}
 use lib.Seq.{take_at}
 use Rattle.schedule.specs.Limits as Limits
 use Rattle.schedule.specs.Table as Rules
@@ -12,51 +13,42 @@ use Rattle.schedule.specs.WellFormed.{well_formed}
 use Rattle.theorems.proofs.Formed.{within_limits, table_formed}
 use Rattle.format.specs.declared.Refusal.{Refusal}
 use Rattle.format.specs.Reading.{Place, Outcome, refused, done, read_of}
-use Rattle.rules.specs.Answers.{Reply, says, refuses}
+use Rattle.rules.specs.Answers.{says, refuses}
 use Rattle.rules.proofs.ReadWellFormed.{nodes_in, read_formed}
 use Rattle.writer.specs.Writing.{written_of}
 use Rattle.writer.specs.Judging.{Judgement, passes, fails, table_at, written, write_of}
-use Rattle.writer.specs.Lengths.{longest_written}
 use Rattle.writer.proofs.WrittenLength.{written_within, longest_is}
 use Rattle.writer.proofs.ReadWritten.{read_written}
 use Rattle.writer.proofs.WriterAnswers.{formed_written, write_formed}
 use Rattle.memory.specs.declared.plain.PhalandrixTable.{PhalandrixTable}
-use Rattle.memory.specs.declared.judging.Judged.{Judged}
-use Rattle.memory.specs.declared.judging.Judged.TheVariants.{Passes, Refused}
 use Rattle.memory.specs.Plain.{graphs_in, table_in}
 use Rattle.memory.specs.Judged.{judged_of}
 use Rattle.memory.proofs.GraphCounts.{graphs_counted}
-use Rattle.table.specs.declared.Table.{Table}
-use Rattle.table.specs.Fresh.{empty_table}
 use Rattle.writing.specs.Written.{Written}
 use Rattle.reading.specs.Memory.{memory_of}
-use Rattle.editing.specs.declared.reads.ReadTable.{ReadTable}
 use Rattle.editing.specs.Plains.{plain_of}
 use Rattle.editing.specs.Editing.{read_table, rewritten, rewrite_of}
 use Rattle.editing.proofs.PlainLaws.{table_of_plain}
 
 -- by what the judgement says
-refused_by : (s : List ℕ) (j : Judgement) (f : Refusal) → Refused f ≡ judged_of j → refuses f ≡ written s j
-refused_by s (passes l) f e = absurd (let z : ◌≡◌ {A = ℕ} 0 1 = cc in omega arith)
-refused_by s (fails r) f e = inner e
-  where
-    inner : Refused f ≡ Refused r → refuses f ≡ refuses r
-    inner g = cc
+refused_by : (s : List ℕ) (j : Judgement) (f : Refusal) → Err f ≡ judged_of j → refuses f ≡ written s j
+refused_by s (passes l) f e = cc
+refused_by s (fails r) f e = let same : f ≡ r = cc in ap refuses same
 
-passed_by_lem : (s : List ℕ) (j : Judgement) → Passes ≡ judged_of j → says s ≡ written s j
+passed_by_lem : (s : List ℕ) (j : Judgement) → Ok tt ≡ judged_of j → says s ≡ written s j
 passed_by_lem s (passes l) e = refl
-passed_by_lem s (fails r) e = absurd (let z : ◌≡◌ {A = ℕ} 0 1 = cc in omega arith)
+passed_by_lem s (fails r) e = cc
 
 module _ (U : Rules.Table) where
-  pub judged_refused : (f : Refusal) → Refused f ≡ judged_of (table_at U 1) → refuses f ≡ write_of U
+  pub judged_refused : (f : Refusal) → Err f ≡ judged_of (table_at U 1) → refuses f ≡ write_of U
   unfolding write_of
   judged_refused f e = refused_by (written_of U) (table_at U 1) f e
 
-  pub judged_written : Passes ≡ judged_of (table_at U 1) → says (written_of U) ≡ write_of U
+  pub judged_written : Ok tt ≡ judged_of (table_at U 1) → says (written_of U) ≡ write_of U
   unfolding write_of
   judged_written e = passed_by_lem (written_of U) (table_at U 1) e
 
-  pub judged_formed : Passes ≡ judged_of (table_at U 1) → well_formed U ≡ true
+  pub judged_formed : Ok tt ≡ judged_of (table_at U 1) → well_formed U ≡ true
   judged_formed e = (write_formed U (written_of U) (sym (judged_written e))).0
 
 -- what the writer needs of a well-formed table in memory
@@ -85,29 +77,16 @@ unfolding rewrite_of
 rewrite_refused s r e = rw e refl
 
 -- what is read into memory is written as the table that was read
-pub rewrite_written : (s : List ℕ) (x : Outcome Rules.Table) → read_of s ≡ x → Passes ≡ (read_table x).judged → write_of (table_in (read_table x).table) ≡ rewritten x
-rewrite_written s (refused r) e h = absurd (let z : ◌≡◌ {A = ℕ} 0 1 = cc in omega arith)
-rewrite_written s (done T p) e h = ap write_of (table_of_plain T (read_formed s T p e))
+pub rewrite_written : (s : List ℕ) (x : Outcome Rules.Table) (t : PhalandrixTable) → read_of s ≡ x → Ok t ≡ read_table x → write_of (table_in t) ≡ rewritten x
+rewrite_written s (refused r) t e h = cc
+rewrite_written s (done T p) t e h =
+    let same : t ≡ plain_of (memory_of T) = cc in
+    ap (λ (u : PhalandrixTable). write_of (table_in u)) same ∙ ap write_of (table_of_plain T (read_formed s T p e))
 
-pub rewrite_refuses : (x : Outcome Rules.Table) (f : Refusal) → Refused f ≡ (read_table x).judged → refuses f ≡ rewritten x
-rewrite_refuses (refused r) f h = inner h
-  where
-    inner : Refused f ≡ Refused r → refuses f ≡ refuses r
-    inner g = cc
-rewrite_refuses (done T p) f h = absurd (let z : ◌≡◌ {A = ℕ} 0 1 = cc in omega arith)
-
--- what reading came to, as it is returned
-pub read_failed : (x : Outcome Rules.Table) (f : Refusal) (t : PhalandrixTable) → x ≡ refused f → t ≡ plain_of (empty_table 0 0)
-    → record { table = t; judged = Refused f } ≡ read_table x
-read_failed x f t e g = rw (e, g) refl
-
-pub read_done : (x : Outcome Rules.Table) (T : Rules.Table) (p : Place) (t : Table) (u : PhalandrixTable) → x ≡ done T p → t ≡ memory_of T → u ≡ plain_of t
-    → record { table = u; judged = Passes } ≡ read_table x
-read_done x T p t u e f g = rw (e, g, f) refl
+pub rewrite_refuses : (x : Outcome Rules.Table) (f : Refusal) → Err f ≡ read_table x → refuses f ≡ rewritten x
+rewrite_refuses (refused r) f h = let same : f ≡ r = cc in ap refuses same
+rewrite_refuses (done T p) f h = cc
 
 -- the text in its room: its first n bytes
 pub in_room : (W before after : List ℕ) (n : ℕ) → Written W before after n → take n after ≡ W
 in_room W before after n w = ap (take n) w.bytes ∙ take_at W (drop (length W) before) n (sym w.size)
-
-pub text_inside : (W before after : List ℕ) (n : ℕ) → Written W before after n → n ≤ length after
-text_inside W before after n w = omega (arith, w.size, ap length w.bytes, length-append W (drop (length W) before))

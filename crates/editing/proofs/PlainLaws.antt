@@ -1,19 +1,20 @@
 -- A table that was read says, in the form without derived fields, what it says: `table_of_plain`.
 use mathlib.Core.Path.{◌≡◌, refl, sym, ap, ◌∙◌}
-use mathlib.Core.Bool.{Bool, true, false, ◌&&◌, cond}
-use mathlib.Core.List.{List, [], ◌∷◌, ◌++◌, map, append-nil}
+use mathlib.Core.Bool.{true, false, ◌&&◌, cond}
+use mathlib.Core.List.{List, [], ◌∷◌, map}
 use Prim.Native.Nat.{ℕ, zero, suc, ◌+◌, ◌-◌, ◌<◌, ◌≤◌}
 use native.Mathlib.Numerals.{add-one}
 use native.Mathlib.Omega.{arith}
 use lib.Dec.{ltb, eqb}
 use lib.ListN.{length, get_or, set, replicate, length-set}
+use Rattle.std.proofs.lemmas.List.{ext_get_or}
 use lib.Seq.{length-sets, get_or-set_same, get_or-set_other}
 use borrow.Author.Tests.{ne_eqb, ltb-true}
 use Rattle.schedule.specs.Limits as Limits
 use Rattle.schedule.specs.Lists.{any?, all?, keep, numbers, tab}
 use Rattle.schedule.specs.Table as Rules
 use Rattle.schedule.specs.WellFormed.{rising, orderly, nodes_formed, graph_formed, well_formed}
-use Rattle.schedule.proofs.Tests.{by_lt, by_test}
+use Rattle.schedule.proofs.Tests.{by_lt}
 use Rattle.theorems.proofs.Formed.{first_of_lem, second_of, within_limits, node_formed, graph_formed_lem, table_formed}
 use Rattle.rules.proofs.ReadWellFormed.{nodes_in}
 use Rattle.numbers.specs.Masks.{width, bit}
@@ -22,7 +23,7 @@ use Rattle.table.specs.declared.Graph.{Graph}
 use Rattle.table.specs.declared.Node.{Node}
 use Rattle.table.specs.Fresh as Fresh
 use Rattle.table.specs.Fresh.{empty_table}
-use Rattle.scanning.specs.Masks.{mask_of, list_of}
+use Rattle.scanning.specs.Masks.{mask_of}
 use Rattle.scanning.proofs.MaskBits.{orderly_fits, mask_bit}
 use Rattle.scanning.proofs.Members.{list_of_mask}
 use Rattle.reading.specs.Memory.{coded_node, filled, with_graph, with_graphs, memory_of}
@@ -52,6 +53,11 @@ replaced_at f xs d (suc n) i h l =
     last e =
         ap (λ (k : ℕ). get_or (set (replaced f xs n) n (f n)) k d) e
         ∙ get_or-set_same (replaced f xs n) n (f n) d (omega (arith, replaced_long f xs n)) ∙ ap f (sym e)
+
+-- a list of n entries that are f of each index below n
+pub replaced_by : {A : Type 0} (f : ℕ → A) (ys base : List A) (d : A) (n : ℕ) → length ys ≡ n → length base ≡ n → ((i : ℕ) → i < n → get_or ys i d ≡ f i) → ys ≡ replaced f base n
+replaced_by f ys base d n long most h =
+    ext_get_or d ys (replaced f base n) (omega (arith, replaced_long f base n)) (λ i l. h i (omega arith) ∙ sym (replaced_at f base d n i (omega arith) (omega arith)))
 
 plain_graph_at : (graphs : List Graph) (g : ℕ) → g < (Limits.graphs).to → get_or (plain_graphs graphs) g Plain.no_graph ≡ plain_graph (get_or graphs g Fresh.no_graph)
 plain_graph_at graphs g h =

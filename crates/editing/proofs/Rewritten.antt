@@ -12,8 +12,7 @@ use Rattle.schedule.specs.Table as Rules
 use Rattle.schedule.proofs.Tests.{by_lt}
 use Rattle.format.specs.declared.Refusal.TheVariants.{TooLong}
 use Rattle.format.specs.Reading.{Outcome, refused, done, read_of}
-use Rattle.rules.specs.Answers.{Reply, says, refuses}
-use Rattle.writer.specs.Judging.{write_of}
+use Rattle.rules.specs.Answers.{says, refuses}
 use Rattle.writer.specs.Lengths.{longest_written}
 use Rattle.writer.proofs.WrittenLength.{written_within}
 use Rattle.writer.proofs.WriterAnswers.{write_formed}

@@ -5,5 +5,5 @@ mod plains;
 mod reads;
 mod writes;
 
-pub use reads::{ReadTable, read, rewrite};
+pub use reads::{read, rewrite};
 pub use writes::write;

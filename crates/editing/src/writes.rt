@@ -8,7 +8,7 @@ ghost use Rattle.memory.specs.Plain.{table_in};
 ghost use Rattle.editing.specs.Calls.{called};
 
 use format::Refusal;
-use memory::{Judged, PhalandrixTable, table_judged};
+use memory::{PhalandrixTable, table_judged};
 use putting::put_table;
 use rules::Answer;
 use writing::put_bytes;
@@ -24,18 +24,16 @@ pub fn put_formed(table: PhalandrixTable, buffer: &mut [u8]) -> Answer
     let mut text = [0u8; WRITTEN_BYTES];
     let n = put_table(&mut text, table);
     if buffer.len() < n {
-        return Answer::Refused(Refusal::ShortBuffer);
+        return Err(Refusal::ShortBuffer);
     }
     put_bytes(buffer, &text[..n]);
-    Answer::Text(n)
+    Ok(n)
 }
 
 // Any content of the table is judged, and written where it passes.
 pub fn write(table: PhalandrixTable, buffer: &mut [u8]) -> Answer
     ensures { called result buffer.new ≡ call_of buffer.old (write_of (table_in table)) }
 {
-    match table_judged(table) {
-        Judged::Refused(f) => Answer::Refused(f),
-        Judged::Passes => put_formed(table, buffer),
-    }
+    table_judged(table)?;
+    put_formed(table, buffer)
 }

@@ -9,8 +9,9 @@ ghost use Rattle.editing.specs.Editing.{read_table};
 ghost use Rattle.editor.specs.Exports.{reading_of};
 
 use editing::{read, write};
-use memory::{Judged, PhalandrixTable};
-use sheet::{PhalandrixAnswer, told};
+use format::Refusal;
+use memory::PhalandrixTable;
+use sheet::PhalandrixAnswer;
 
 // 0, 0 and 0 with the table; or a refusal's number, line and column with a table of zeros.
 #[repr(C)]
@@ -22,30 +23,37 @@ pub struct PhalandrixReading {
     pub table: PhalandrixTable,
 }
 
+impl From<Result<PhalandrixTable, Refusal>> for PhalandrixReading {
+    ghost use Rattle.editor.specs.Exports.{reading_of};
+
+    ghost from_gives = { λ read r. r ≡ reading_of read };
+
+    fn from(read: Result<PhalandrixTable, Refusal>) -> PhalandrixReading {
+        match read {
+            Ok(table) => PhalandrixReading {
+                number: 0,
+                line: 0,
+                column: 0,
+                table,
+            },
+            Err(f) => PhalandrixReading {
+                number: writing::number_of(f),
+                line: writing::line_of(f),
+                column: writing::column_of(f),
+                table: PhalandrixTable::default(),
+            },
+        }
+    }
+}
+
 pub fn phalandrix_read(table: &[u8]) -> PhalandrixReading
     ensures { result ≡ reading_of (read_table (read_of table.now)) }
 {
-    let got = read(table);
-    let judged = got.judged;
-    let t = got.table;
-    match judged {
-        Judged::Passes => PhalandrixReading {
-            number: 0,
-            line: 0,
-            column: 0,
-            table: t,
-        },
-        Judged::Refused(f) => PhalandrixReading {
-            number: writing::number_of(f),
-            line: writing::line_of(f),
-            column: writing::column_of(f),
-            table: t,
-        },
-    }
+    PhalandrixReading::from(read(table))
 }
 
 pub fn phalandrix_write(table: PhalandrixTable, buffer: &mut [u8]) -> PhalandrixAnswer
     ensures { Told result buffer.new (call_of buffer.old (write_of (table_in table))) }
 {
-    told(write(table, buffer))
+    PhalandrixAnswer::from(write(table, buffer))
 }

@@ -4,5 +4,5 @@
 mod reads;
 mod taking;
 
-pub use reads::{Input, PIECE, Reading, Taken, after_read, read_input};
+pub use reads::{Lack, PIECE, after_read, read_input};
 pub use taking::take_tables;

@@ -4,90 +4,62 @@ ghost use Rattle.schedule.specs.Limits as Limits;
 ghost use Rattle.printing.specs.Batches.{slots_bytes};
 ghost use Rattle.inputs.specs.Inputs.{piece_bytes, IsLength, AreLengths};
 
-use crate::reads::{PIECE, Taken, ended, filled, read_input};
-use printing::{SLOT, least};
+use crate::reads::{Lack, PIECE, ended, filled, read_input};
+use printing::SLOT;
 use std::io::Read;
 
 // The bytes that come next, into all of the space; and whether none comes next.
-fn fill<R: Read>(source: &mut R, space: &mut [u8]) -> Taken {
-    let n = space.len();
-    let input = read_input(&mut *source, space);
-    filled(input, n)
+fn fill<R: Read>(source: &mut R, space: &mut [u8]) -> Result<(), Lack> {
+    filled(read_input(source, space), space.len())
 }
 
-fn at_end<R: Read>(source: &mut R) -> Taken {
+fn at_end<R: Read>(source: &mut R) -> Result<(), Lack> {
     let mut byte = [0u8; 1];
-    let input = read_input(&mut *source, &mut byte);
-    ended(input)
+    ended(read_input(source, &mut byte))
 }
 
 // Bytes that nobody needs: a piece of them, and all.
-fn skip_piece<R: Read>(source: &mut R, n: usize) -> Taken
+fn skip_piece<R: Read>(source: &mut R, n: usize) -> Result<(), Lack>
     requires { n ≤ piece_bytes }
 {
     let mut piece = [0u8; PIECE];
-    fill(&mut *source, &mut piece[..n])
+    fill(source, &mut piece[..n])
 }
 
-fn skip<R: Read>(source: &mut R, n: usize) -> Taken {
+fn skip<R: Read>(source: &mut R, n: usize) -> Result<(), Lack> {
     let mut left = n;
     while left > 0 {
-        let k = least(left, PIECE);
-        match skip_piece(&mut *source, k) {
-            Taken::Whole => {
-                left -= k;
-            }
-            Taken::Wrong => {
-                return Taken::Wrong;
-            }
-            Taken::Failed(e) => {
-                return Taken::Failed(e);
-            }
-        }
+        let k = left.min(PIECE);
+        skip_piece(source, k)?;
+        left -= k;
     }
-    Taken::Whole
+    Ok(())
 }
 
 // The next table of an input, of that length. Of one that is longer than its slot, what does not fit is passed over: a slot past the limit of a
 // table's bytes holds enough to refuse it. The largest u32 stands for every length that is none.
-fn take_table<R: Read>(source: &mut R, bytes: usize, slot: &mut [u8]) -> Taken
+fn take_table<R: Read>(source: &mut R, bytes: usize, slot: &mut [u8]) -> Result<(), Lack>
     ensures { IsLength bytes result }
 {
     if u32::MAX as usize <= bytes {
-        return Taken::Wrong;
+        return Err(Lack::Wrong);
     }
     let size = slot.len();
     if bytes <= size {
-        return fill(&mut *source, &mut slot[..bytes]);
+        return fill(source, &mut slot[..bytes]);
     }
-    match fill(&mut *source, slot) {
-        Taken::Whole => skip(&mut *source, bytes - size),
-        Taken::Wrong => Taken::Wrong,
-        Taken::Failed(e) => Taken::Failed(e),
-    }
+    fill(source, slot)?;
+    skip(source, bytes - size)
 }
 
 // The tables of an input, each into its slot; and whether the input ends with the last.
-pub fn take_tables<R: Read>(source: &mut R, lengths: &[usize], room: &mut [u8]) -> Taken
+pub fn take_tables<R: Read>(source: &mut R, lengths: &[usize], room: &mut [u8]) -> Result<(), Lack>
     requires lengths_len_bound { length lengths.now ≤ (Limits.tables).to }
     requires slots_bytes_in_bounds { slots_bytes ≤ length room.old }
     ensures { AreLengths lengths.now result }
 {
-    let mut i: usize = 0;
-    while i < lengths.len() {
-        let start = i * SLOT;
-        let end = start + SLOT;
-        match take_table(&mut *source, lengths[i], &mut room[start..end]) {
-            Taken::Whole => {
-                i += 1;
-            }
-            Taken::Wrong => {
-                return Taken::Wrong;
-            }
-            Taken::Failed(e) => {
-                return Taken::Failed(e);
-            }
-        }
+    for (i, bytes) in lengths.iter().enumerate() {
+        take_table(source, *bytes, &mut room[i * SLOT..(i + 1) * SLOT])?;
     }
     at_end(source)
 }

@@ -19,6 +19,13 @@ behind_of k j = cond (eqb j 0) 0 (further (k - j) 1)
 abbrev pub job_at : (complete d : ℕ) → ℕ
 job_at complete d = further complete (d + 1)
 
+-- how many server jobs are pending at place i, and how many of them the state has room for
+abbrev pub pending_of : Ledger → ℕ → ℕ
+pending_of l i = released_at l i - complete_at l i
+
+abbrev pub shown_of : Ledger → ℕ → ℕ
+shown_of l i = min (pending_of l i) room
+
 abbrev pub left_by : (used : List ℕ) → (i complete budget : ℕ) → List ℕ → ℕ → List ℕ
 left_by used i complete budget left m =
     changed (λ (d : ℕ). true) (λ (d : ℕ). i * room + d) (λ (d : ℕ). budget - get_or used (slot_at i (job_at complete d)) 0) left m
@@ -43,7 +50,7 @@ blank_state =
 
 module _ (plan : Plan) (offsets : List ℕ) (l : Ledger) (t : ℕ) where
   abbrev pub count_at : ℕ → ℕ
-  count_at i = released_at l i - complete_at l i
+  count_at i = pending_of l i
 
   -- of the d-th pending server job at place i
   abbrev pub left_of : ℕ → ℕ → ℕ
@@ -53,7 +60,7 @@ module _ (plan : Plan) (offsets : List ℕ) (l : Ledger) (t : ℕ) where
   behind_at i d = behind_of (job_at (complete_at l i) d) (get_or l.link (slot_at i (job_at (complete_at l i) d)) 0)
 
   abbrev pub shown : ℕ → ℕ
-  shown i = min (count_at i) room
+  shown i = shown_of l i
 
   -- of the first n places
   abbrev pub form_to : ℕ → Formed

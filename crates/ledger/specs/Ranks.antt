@@ -1,5 +1,6 @@
 -- Which server jobs are ready, how many stand before one, and which run in a tick: what `rank`, `run` and their functions compute.
-use Rattle.std.specs.Prelude.{Bool, cond, List, ℕ, zero, suc, ◌+◌, ◌-◌, min, ltb, eqb, get_or}
+use Rattle.std.specs.Prelude.{Bool, cond, List, Option, Some, None, option_map, ℕ, zero, suc, ◌+◌, ◌-◌, min, ltb, eqb, get_or}
+use Rattle.std.specs.Option.{option_or}
 use Rattle.window.specs.declared.Plan.{Plan}
 use Rattle.window.specs.Entries.{further, nodes_of}
 use Rattle.ledger.specs.declared.Ledger.{Ledger}
@@ -54,19 +55,22 @@ module _ (offsets period level complete released : List ℕ) where
   run_to old n p zero = old
   run_to old n p (suc i) = run_server old n p i (run_to old n p i)
 
-  -- the last of m ready server jobs of place i that has rank r, 0 for none; and over the first m places
-  unfoldable pub found_by : (n i r m : ℕ) → ℕ
-  found_by n i r zero = 0
-  found_by n i r (suc m) = cond (eqb (rank n i (get_or complete i 0 + suc m)) r) (get_or complete i 0 + suc m) (found_by n i r m)
+  -- the last of m ready server jobs of place i that has rank r, if one has; and over the first m places
+  unfoldable pub found_by : (n i r m : ℕ) → Option ℕ
+  found_by n i r zero = None
+  found_by n i r (suc m) = cond (eqb (rank n i (get_or complete i 0 + suc m)) r) (Some (get_or complete i 0 + suc m)) (found_by n i r m)
 
-  abbrev pub found_in : (n i r : ℕ) → ℕ
+  abbrev pub found_in : (n i r : ℕ) → Option ℕ
   found_in n i r = found_by n i r (ready_count i)
 
-  unfoldable pub found_to : (n r m : ℕ) → Found
-  found_to n r zero = record { place = 0; number = 0 }
-  found_to n r (suc m) = cond (ltb 0 (found_in n m r)) (record { place = m; number = found_in n m r }) (found_to n r m)
+  abbrev pub found_at : (m : ℕ) → Option ℕ → Option Found
+  found_at m number = option_map (λ (k : ℕ). record { place = m; number = k }) number
 
-  abbrev pub found : (n r : ℕ) → Found
+  unfoldable pub found_to : (n r m : ℕ) → Option Found
+  found_to n r zero = None
+  found_to n r (suc m) = option_or (found_at m (found_in n m r)) (found_to n r m)
+
+  abbrev pub found : (n r : ℕ) → Option Found
   found n r = found_to n r n
 
 unfoldable pub run : Plan → List ℕ → Ledger → Ledger

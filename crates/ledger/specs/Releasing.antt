@@ -1,5 +1,5 @@
 -- The releases of an instant and their links, and the backlog test: what `release`, `backlogged` and their functions compute.
-use Rattle.std.specs.Prelude.{Bool, not, ◌&&◌, ◌||◌, cond, List, ℕ, ◌-◌, leb, ltb, eqb, get_or}
+use Rattle.std.specs.Prelude.{Bool, not, ◌&&◌, ◌||◌, cond, List, Option, Some, None, unwrap_or, ℕ, ◌-◌, leb, ltb, eqb, get_or}
 use Rattle.schedule.specs.Limits as Limits
 use Rattle.numbers.specs.Masks.{bit}
 use Rattle.window.specs.declared.Plan.{Plan}
@@ -21,23 +21,26 @@ all_finished finished mask j = all_below (λ (p : ℕ). not (bit mask p) || leb 
 abbrev pub is_due : List ℕ → (mask j released : ℕ) → Bool
 is_due finished mask j released = cond (eqb mask 0) (leb j released) (all_finished finished mask j)
 
--- rule 3: the number of the job that is linked now, 0 for none; and how many are linked after that
-abbrev pub link_now : List ℕ → (mask j released : ℕ) → ℕ
-link_now finished mask j released = cond (is_due finished mask j released) j 0
+-- rule 3: the number of the job that is linked now, if there is one; and how many are linked after that
+abbrev pub link_now : List ℕ → (mask j released : ℕ) → Option ℕ
+link_now finished mask j released = cond (is_due finished mask j released) (Some j) None
 
-abbrev pub linked_after : (linked now : ℕ) → ℕ
-linked_after linked now = cond (eqb now 0) linked now
+abbrev pub linked_after : (linked : ℕ) → Option ℕ → ℕ
+linked_after linked now = unwrap_or now linked
 
 module _ (plan : Plan) (offsets : List ℕ) (l : Ledger) (t : ℕ) where
-  -- at place i: whether it releases, the number of its next server job, and the job linked to that
+  -- at place i: whether it releases, the number of its next server job, and the job linked to that, also as the ledger has it, 0 for none
   abbrev pub releases_at : ℕ → Bool
   releases_at i = releases (offset_at offsets i) (period_at plan i) (released_at l i) t
 
   abbrev pub next_at : ℕ → ℕ
   next_at i = further (released_at l i) 1
 
+  abbrev pub new_job : ℕ → Option ℕ
+  new_job i = link_now l.finished (after_at plan i) (further (linked_at l i) 1) (next_at i)
+
   abbrev pub new_link : ℕ → ℕ
-  new_link i = link_now l.finished (after_at plan i) (further (linked_at l i) 1) (next_at i)
+  new_link i = unwrap_or (new_job i) 0
 
   abbrev pub new_slot : ℕ → ℕ
   new_slot i = slot_at i (next_at i)
@@ -48,7 +51,7 @@ module _ (plan : Plan) (offsets : List ℕ) (l : Ledger) (t : ℕ) where
       record {
         released = changed releases_at (λ (i : ℕ). i) next_at l.released n;
         complete = l.complete;
-        linked = changed releases_at (λ (i : ℕ). i) (λ (i : ℕ). linked_after (linked_at l i) (new_link i)) l.linked n;
+        linked = changed releases_at (λ (i : ℕ). i) (λ (i : ℕ). linked_after (linked_at l i) (new_job i)) l.linked n;
         finished = l.finished;
         worst = l.worst;
         used = changed releases_at new_slot (λ (i : ℕ). 0) l.used n;

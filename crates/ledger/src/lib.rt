@@ -6,7 +6,9 @@ use table::Table;
 
 // By the place of a node's server: how many server jobs, and so invocations, are released; how many server jobs are complete, which are the
 // first ones; how many jobs are linked, and how many finished; and the largest response of its jobs so far. Of each pending server job, at the
-// slot of its number: the ticks that it has used, and the number of the job linked to it, 0 for none. (Its deadline is rule 1's.)
+// slot of its number: the ticks that it has used, and the number of the job linked to it, 0 for none. (Its deadline is rule 1's.) Arrays of numbers
+// by place and by slot, since memory is fixed, each step reads one or two of them at every place, and the state formed of them is compared number by
+// number; so a link that is absent is a number too.
 #[derive(Clone, Copy)]
 pub struct Ledger {
     pub released: [u32; Table::SERVERS],
@@ -39,28 +41,11 @@ pub struct Done {
     pub worst: u32,
 }
 
-// A server job: its server's place, and its number, 0 for none.
+// A server job: its server's place, and its number.
 #[derive(Clone, Copy)]
 pub struct Found {
     pub place: usize,
     pub number: u32,
-}
-
-// How a walk ended: in one of document 01's three ways, settled with its round; or at the instant asked, before any of them.
-#[derive(Clone, Copy)]
-pub enum How {
-    Settled(u32),
-    Unsettled,
-    Backlog,
-    Reached,
-}
-
-// How, at which instant, and what is known there: before the releases of that instant at a boundary, after them otherwise.
-#[derive(Clone, Copy)]
-pub struct Walk {
-    pub how: How,
-    pub ticks: u32,
-    pub ledger: Ledger,
 }
 
 impl Ledger {

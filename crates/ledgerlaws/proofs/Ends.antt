@@ -23,6 +23,7 @@ use Rattle.theorems.proofs.Unique.{FirstStop}
 use Rattle.window.specs.declared.Plan.{Plan}
 use Rattle.window.specs.Entries.{window, further}
 use Rattle.window.proofs.Relation.{last_instant}
+use Rattle.window.proofs.Ends.{how_of}
 use Rattle.window.proofs.Boundaries.{Next, boundary_is, round_is, last_is, within, later_same, later_next, next_within}
 use Rattle.ledger.specs.declared.Ledger.{Ledger}
 use Rattle.ledger.specs.declared.Formed.{Formed}
@@ -37,37 +38,30 @@ use Rattle.ledgerlaws.proofs.Running.{run_keeps}
 use Rattle.ledgerlaws.proofs.Finishing.{finish_keeps}
 use Rattle.ledgerlaws.proofs.Forming.{Shows, form_shows}
 use Rattle.ledgerlaws.proofs.Comparing.{same_formed_lem}
-use Rattle.ledger.specs.declared.How.{How}
-use Rattle.ledger.specs.declared.How.TheVariants.{Settled, Unsettled, Backlog, Reached}
-use Rattle.ledger.specs.declared.Walk.{Walk}
+use Rattle.window.specs.declared.How.TheVariants.{Reached}
+use Rattle.window.specs.declared.Walk.{Walk}
 use Rattle.ledger.specs.Walking.{fresh, ended, settles, runs_out, backlogs, later_of, round_of, before_of, ticked, decided, walk_from, walk_of}
 use Rattle.ledgerlaws.proofs.Fresh.{fresh_in_step}
-
--- the engine's word for a stop of the rules
-abbrev pub how_of : Stop → How
-how_of (settled k) = Settled k
-how_of unsettled = Unsettled
-how_of backlog = Backlog
 
 module _ (X : Box) where
   abbrev need : ℕ → ℕ → ℕ
   need = whole X.servers
 
   -- the walk stopped as the rules' does, at or before the instant asked; it has kept the figures
-  pub record Stops (asked : ℕ) (w : Walk) : Type 0 where
+  pub record Stops (asked : ℕ) (w : Walk Ledger) : Type 0 where
     pub stop : Stop
     pub how : w.how ≡ how_of stop
     pub first : FirstStop X need stop w.ticks
-    pub worst : (i : ℕ) → i < length X.servers → worst_at w.ledger i ≡ figure X need i w.ticks
+    pub worst : (i : ℕ) → i < length X.servers → worst_at w.state i ≡ figure X need i w.ticks
     pub by : w.ticks ≤ asked
 
   -- it came to the instant asked, and the rules' walk does not stop up to there
-  pub record Comes (asked : ℕ) (w : Walk) : Type 0 where
+  pub record Comes (asked : ℕ) (w : Walk Ledger) : Type 0 where
     pub how : w.how ≡ Reached
-    pub released : Released X asked w.ledger
+    pub released : Released X asked w.state
     pub goes_on : (u : ℕ) → u ≤ asked → stop_at X need u ≡ none
 
-  abbrev pub Ends : ℕ → Walk → Type 0
+  abbrev pub Ends : ℕ → Walk Ledger → Type 0
   Ends asked w = Stops asked w ⊎ Comes asked w
 
 module _ (X : Box) (plan : Plan) (offsets : List ℕ) (laid : Laid X plan offsets) (hyper_some : 0 < X.hyper)
@@ -232,7 +226,7 @@ module _ (X : Box) (plan : Plan) (offsets : List ℕ) (laid : Laid X plan offset
           goes_on = λ u l. by_lt u t (λ h. k.goes_on u h) (λ h. let q : u ≡ t = omega arith in rw q (none_now no-a no-b no-c));
         })
 
-    ends_now : (rest : Walk) → (A ≡ false → B ≡ false → C ≡ false → eqb t asked ≡ false → Ends X asked rest)
+    ends_now : (rest : Walk Ledger) → (A ≡ false → B ≡ false → C ≡ false → eqb t asked ≡ false → Ends X asked rest)
         → Ends X asked (decided plan offsets X.hyper X.rounds asked t next round l a before rest)
     unfolding A B C
     ends_now rest later =

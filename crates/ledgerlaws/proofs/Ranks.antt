@@ -172,9 +172,6 @@ module _ (X : Box) (plan : Plan) (offsets : List ℕ) (laid : Laid X plan offset
           (ap (λ (n : ℕ). count test (jobs_from p 1 n)) whole_is
           ∙ omega (arith, jobs_split test p 1 (c p) (d p + rest), jobs_split test p (1 + c p) (d p) rest, none_first, none_last))
 
-      at_few : before_at offsets plan.period plan.level l.complete l.released i D p ≤ 4
-      at_few = omega (arith, by_few (d p), ready_count_lem p g, level_most p g)
-
     abbrev jobs : ℕ → List ServerJob
     jobs p = jobs_from p 1 (N p)
 

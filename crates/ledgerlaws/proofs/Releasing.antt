@@ -1,6 +1,7 @@
 -- Release and link keep the relation.
 use mathlib.Core.Path.{◌≡◌, refl, sym, ap, subst, ◌∙◌}
 use mathlib.Core.Bool.{Bool, true, false, not, ◌||◌, cond}
+use Rattle.std.specs.Prelude.{Option, Some, None, unwrap_or}
 use mathlib.Core.List.{List}
 use Prim.Native.Nat.{ℕ, zero, suc, ◌+◌, ◌≤◌, ◌<◌, zero-le}
 use native.Mathlib.Omega.{arith}
@@ -33,7 +34,7 @@ use Rattle.window.proofs.Counted.{whole_rises, finished_count_lem}
 use Rattle.window.proofs.Ancestors.{Beside, beside_is, same_releases}
 use Rattle.ledger.specs.declared.Ledger.{Ledger}
 use Rattle.ledger.specs.Entries.{slot_at, instant_after, offset_at, released_at, linked_at, finished_at}
-use Rattle.ledger.specs.Releasing.{is_due, linked_after, releases_at, next_at, new_link, new_slot, release_to, release}
+use Rattle.ledger.specs.Releasing.{is_due, linked_after, releases_at, next_at, new_job, new_link, new_slot, release_to, release}
 use Rattle.ledgerlaws.proofs.Changed.{changed_length, changed_other, changed_at, in_slots, slot_place, slot_number}
 use Rattle.ledgerlaws.proofs.Relation.{Laid, Sized, Row, InStep, Released}
 
@@ -47,9 +48,13 @@ pub few_released_now : (s : Server) (t : ℕ) → released s t ≤ t + 1
 few_released_now s t = omega (arith, released_before_one s t, few_released s t)
 
 -- one link more
-counted_link : (b : Bool) (m : ℕ) → linked_after m (cond b (m + 1) 0) ≡ m + one? (ltb 0 (cond b (m + 1) 0))
-counted_link true m = rw (ne_eqb (m + 1) 0 (λ e. omega arith), lt-ltb 0 (m + 1) (omega arith)) refl
+counted_link : (b : Bool) (m : ℕ) → linked_after m (cond b (Some (m + 1)) None) ≡ m + one? (ltb 0 (cond b (m + 1) 0))
+counted_link true m = rw (lt-ltb 0 (m + 1) (omega arith)) refl
 counted_link false m = omega arith
+
+link_number : (b : Bool) (j : ℕ) → unwrap_or (cond b (Some j) None) 0 ≡ cond b j 0
+link_number true j = refl
+link_number false j = refl
 
 module _ (X : Box) (plan : Plan) (offsets : List ℕ) (laid : Laid X plan offsets) (t : ℕ) (l : Ledger) (now : InStep X t l) (early : t ≤ last_instant) where
   abbrev S : List Server
@@ -164,11 +169,14 @@ module _ (X : Box) (plan : Plan) (offsets : List ℕ) (laid : Laid X plan offset
       new_link_lem =
           links_new S X.cap (whole S) t i (suc (N i)) h (omega arith) release ∙ new_link_is_lem S X.cap (whole S) t i ∙ rw due_is
 
-    new_link_is : new_link plan offsets l t i ≡ cond due j 0
-    new_link_is =
+    new_job_is : new_job plan offsets l t i ≡ cond due (Some j) None
+    new_job_is =
         let r = now.row i h in
         let n : further (linked_at l i) 1 ≡ j = omega (arith, r.linked, few_linked, few_released (s i) t) in
         rw (n, next_is i h)
+
+    new_link_is : new_link plan offsets l t i ≡ cond due j 0
+    new_link_is = ap (λ (o : Option ℕ). unwrap_or o 0) new_job_is ∙ link_number due j
 
   -- the ledger after the releases of the first n places
   abbrev after : Ledger
@@ -180,7 +188,7 @@ module _ (X : Box) (plan : Plan) (offsets : List ℕ) (laid : Laid X plan offset
         released = changed_length releasing (λ (i : ℕ). i) (next_at plan offsets l t) l.released (length S) ∙ now.sized.released;
         complete = now.sized.complete;
         linked =
-            changed_length releasing (λ (i : ℕ). i) (λ (i : ℕ). linked_after (linked_at l i) (new_link plan offsets l t i)) l.linked (length S)
+            changed_length releasing (λ (i : ℕ). i) (λ (i : ℕ). linked_after (linked_at l i) (new_job plan offsets l t i)) l.linked (length S)
             ∙ now.sized.linked;
         finished = now.sized.finished;
         worst = now.sized.worst;
@@ -221,7 +229,7 @@ module _ (X : Box) (plan : Plan) (offsets : List ℕ) (laid : Laid X plan offset
           released = changed_other releasing (λ (i : ℕ). i) (next_at plan offsets l t) l.released (length S) i no ∙ r.released;
           complete = r.complete;
           linked =
-              changed_other releasing (λ (i : ℕ). i) (λ (i : ℕ). linked_after (linked_at l i) (new_link plan offsets l t i)) l.linked (length S) i no
+              changed_other releasing (λ (i : ℕ). i) (λ (i : ℕ). linked_after (linked_at l i) (new_job plan offsets l t i)) l.linked (length S) i no
               ∙ r.linked ∙ sym (same_count S X.cap (whole S) t i (N i) (omega arith));
           finished = r.finished ∙ sym finished_same;
           worst = r.worst;
@@ -242,8 +250,8 @@ module _ (X : Box) (plan : Plan) (offsets : List ℕ) (laid : Laid X plan offset
         let own-slot : (q : ℕ) → q < length S → T (releasing q) → new_slot plan offsets l t i ≡ new_slot plan offsets l t q → q ≡ i =
         λ q g v z. sym (slot_place i q (next_at plan offsets l t i) (next_at plan offsets l t q) z) in
         let new : L' i (suc (N i)) ≡ cond (due i h) (j i h) 0 = new_link_lem i h (omega arith) in
-        let counted : linked_after (linked_at l i) (new_link plan offsets l t i) ≡ m i + one? (ltb 0 (cond (due i h) (j i h) 0)) =
-        rw (new_link_is i h, r.linked) (counted_link (due i h) (m i)) in
+        let counted : linked_after (linked_at l i) (new_job plan offsets l t i) ≡ m i + one? (ltb 0 (cond (due i h) (j i h) 0)) =
+        rw (new_job_is i h, r.linked) (counted_link (due i h) (m i)) in
         let linked-then : linked_up_to (L' i) (suc (N i)) ≡ m i + one? (ltb 0 (cond (due i h) (j i h) 0)) =
         linked_last (L' i) (N i) ∙ rw (new, same_count S X.cap (whole S) t i (N i) (omega arith)) in
         let at_new : slot_at i (suc (N i)) ≡ new_slot plan offsets l t i = ap (slot_at i) (sym (next_is i h)) in
@@ -254,7 +262,7 @@ module _ (X : Box) (plan : Plan) (offsets : List ℕ) (laid : Laid X plan offset
               ∙ next_is i h;
           complete = r.complete;
           linked =
-              changed_at releasing (λ (i : ℕ). i) (λ (i : ℕ). linked_after (linked_at l i) (new_link plan offsets l t i)) l.linked (length S) i h w own
+              changed_at releasing (λ (i : ℕ). i) (λ (i : ℕ). linked_after (linked_at l i) (new_job plan offsets l t i)) l.linked (length S) i h w own
               (omega (arith, inside, now.sized.linked))
               ∙ counted
               ∙ sym linked-then;

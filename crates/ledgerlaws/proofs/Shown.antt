@@ -10,7 +10,9 @@ use native.Mathlib.Omega.{arith}
 use lib.Dec.{T, eqb, eqb→eq}
 use lib.ListN.{length, get_or, set, take}
 use lib.Seq.{take-suc-set}
-use borrow.Author.Tests.{lt-ltb, le-ltb, eqb-true, eqb-false}
+use borrow.Author.Tests.{eqb-true, eqb-false}
+use Rattle.std.specs.Prelude.{Option, Some, None}
+use Rattle.std.proofs.lemmas.Option.{none-some}
 use Rattle.schedule.specs.Limits as Limits
 use Rattle.schedule.specs.Lists.{keep, joined}
 use Rattle.schedule.specs.Servers.{Server, srv, Box, whole}
@@ -37,7 +39,7 @@ use Rattle.ledger.specs.Ranks.{ready_count, rank, found_by, found_in, found_to}
 use Rattle.ledgerlaws.proofs.Relation.{Laid, Released}
 use Rattle.ledgerlaws.proofs.Ranks.{ready_after, is_ready_lem, rank_is}
 use Rattle.ledgerlaws.proofs.OneRank.{one_rank}
-use Rattle.ledger.specs.Showing.{of_rank, line_of, row_to, row_of}
+use Rattle.ledger.specs.Showing.{line_of, row_to, row_of}
 use Rattle.ledger.proofs.RowLaws.{run_length, few_lines}
 
 -- the search for rank r, by place and number
@@ -48,19 +50,19 @@ module _ (offsets period level complete released : List ℕ) (n r : ℕ) where
   abbrev own : ℕ → ℕ → ℕ
   own i m = rank offsets period level complete released n i (number i m)
 
-  abbrev by : ℕ → ℕ → ℕ
+  abbrev by : ℕ → ℕ → Option ℕ
   by i m = found_by offsets period level complete released n i r m
 
   -- none of the first m ready server jobs of place i has the rank; or one has, and is found
   record NoneIn (i m : ℕ) : Type 0 where
     none : (j : ℕ) → j < m → own i j ≡ r → ⊥
-    is : by i m ≡ 0
+    is : by i m ≡ None
 
   record SomeIn (i m : ℕ) : Type 0 where
     at : ℕ
     below : at < m
     has : own i at ≡ r
-    is : by i m ≡ number i at
+    is : by i m ≡ Some (number i at)
 
   here : (i m : ℕ) → eqb (own i m) r ≡ true → SomeIn i (suc m)
   unfolding found_by
@@ -85,48 +87,46 @@ module _ (offsets period level complete released : List ℕ) (n r : ℕ) where
       either_way (dec (eqb (own i m) r)) (λ e. inr (here i m e))
       (λ e. either_way (by_found i m) (λ x. inl (none_more i m e x)) (λ x. inr (some_more i m e x)))
 
-  abbrev inside : ℕ → ℕ
+  abbrev inside : ℕ → Option ℕ
   inside i = found_in offsets period level complete released n i r
 
-  abbrev to : ℕ → Found
+  abbrev to : ℕ → Option Found
   to m = found_to offsets period level complete released n r m
 
+  -- no server job of the first m places has the rank; or one has, and is found
   record NoPlace (m : ℕ) : Type 0 where
-    none : (i : ℕ) → i < m → inside i ≡ 0
-    is : (to m).number ≡ 0
+    none : (i : ℕ) → i < m → inside i ≡ None
+    is : to m ≡ None
 
   record SomePlace (m : ℕ) : Type 0 where
     at : ℕ
     below : at < m
-    some : 0 < inside at
-    place_is : (to m).place ≡ at
-    number_is : (to m).number ≡ inside at
+    own_turn : SomeIn at (ready_count offsets period level complete released at)
+    is : to m ≡ Some (record { place = at; number = number at own_turn.at })
 
-  place_here : (m : ℕ) → 0 < inside m → SomePlace (suc m)
+  place_here : (m : ℕ) → SomeIn m (ready_count offsets period level complete released m) → SomePlace (suc m)
   unfolding found_to
-  place_here m h = let e = lt-ltb 0 (inside m) h in record { at = m; below = omega arith; some = h; place_is = rw e; number_is = rw e }
+  place_here m h = record { at = m; below = omega arith; own_turn = h; is = rw h.is }
 
-  no_place_more : (m : ℕ) → inside m ≤ 0 → NoPlace m → NoPlace (suc m)
+  no_place_more : (m : ℕ) → inside m ≡ None → NoPlace m → NoPlace (suc m)
   unfolding found_to
   no_place_more m h x =
-      let e = le-ltb 0 (inside m) h in
       record {
-        none = λ i l. by_lt i m (λ g. x.none i g) (λ g. let q : i ≡ m = omega arith in ap inside q ∙ omega arith);
-        is = rw e x.is;
+        none = λ i l. by_lt i m (λ g. x.none i g) (λ g. let q : i ≡ m = omega arith in ap inside q ∙ h);
+        is = rw h x.is;
       }
 
-  some_place_more : (m : ℕ) → inside m ≤ 0 → SomePlace m → SomePlace (suc m)
+  some_place_more : (m : ℕ) → inside m ≡ None → SomePlace m → SomePlace (suc m)
   unfolding found_to
-  some_place_more m h x =
-      let e = le-ltb 0 (inside m) h in
-      record { at = x.at; below = omega (arith, x.below); some = x.some; place_is = rw e x.place_is; number_is = rw e x.number_is }
+  some_place_more m h x = record { at = x.at; below = omega (arith, x.below); own_turn = x.own_turn; is = rw h x.is }
 
   to_found : (m : ℕ) → NoPlace m ⊎ SomePlace m
   unfolding found_to
   to_found zero = inl (record { none = λ i h. absurd (not-suc-le-zero h); is = refl })
   to_found (suc m) =
-      by_lt 0 (inside m) (λ h. inr (place_here m h))
-      (λ h. either_way (to_found m) (λ x. inl (no_place_more m h x)) (λ x. inr (some_place_more m h x)))
+      either_way (by_found m (ready_count offsets period level complete released m))
+      (λ h. either_way (to_found m) (λ x. inl (no_place_more m h.is x)) (λ x. inr (some_place_more m h.is x)))
+      (λ h. inr (place_here m h))
 
 module _ (X : Box) (plan : Plan) (offsets : List ℕ) (laid : Laid X plan offsets) (t : ℕ) (l : Ledger) (rel : Released X t l) (early : t ≤ last_instant) where
   abbrev S : List Server
@@ -157,9 +157,6 @@ module _ (X : Box) (plan : Plan) (offsets : List ℕ) (laid : Laid X plan offset
     abbrev P : Type 0
     P = SomePlace offsets plan.period plan.level l.complete l.released (nodes_of plan) r (nodes_of plan)
 
-    abbrev x : Found
-    x = of_rank plan offsets l r
-
     abbrev mine : ℕ → ℕ → ℕ
     mine i k = rank offsets plan.period plan.level l.complete l.released (nodes_of plan) i k
 
@@ -182,7 +179,7 @@ module _ (X : Box) (plan : Plan) (offsets : List ℕ) (laid : Laid X plan offset
         let e = turn_is i h k a in
         either_way (by_found offsets plan.period plan.level l.complete l.released (nodes_of plan) r i (d i))
         (λ q. q.none m (omega arith) (ap (mine i) e ∙ same))
-        (λ q. let zero-there = n.none i (omega (arith, nodes_are X plan laid.fits)) in let f : ⊥ = omega (arith, q.is) in f))
+        (λ q. absurd (none-some _ (sym (n.none i (omega (arith, nodes_are X plan laid.fits))) ∙ q.is))))
         all
       where
         in_list : (i k : ℕ) → T (ready S σ t (server_job i k)) → i < length S
@@ -194,25 +191,24 @@ module _ (X : Box) (plan : Plan) (offsets : List ℕ) (laid : Laid X plan offset
       i = p.at
 
       abbrev k : ℕ
-      k = x.number
+      k = get_or l.complete i 0 + suc p.own_turn.at
+
+      -- the server job that is found
+      abbrev x : Found
+      x = record { place = i; number = k }
 
       inside_S : i < length S
       inside_S = omega (arith, p.below, nodes_are X plan laid.fits)
 
-      own_turn : SomeIn offsets plan.period plan.level l.complete l.released (nodes_of plan) r i (d i)
-      own_turn =
-          either_way (by_found offsets plan.period plan.level l.complete l.released (nodes_of plan) r i (d i))
-          (λ q. absurd (let z : ⊥ = omega (arith, q.is, p.some) in z)) (λ q. q)
-
-      k_is : k ≡ c i + suc own_turn.at
-      k_is = p.number_is ∙ own_turn.is ∙ ap (λ (q : ℕ). q + suc own_turn.at) (rel.row i inside_S).complete
+      k_is : k ≡ c i + suc p.own_turn.at
+      k_is = ap (λ (q : ℕ). q + suc p.own_turn.at) (rel.row i inside_S).complete
 
       is_ready_k : T (ready S σ t (server_job i k))
-      is_ready_k = is_ready_lem X plan offsets laid t l rel early i inside_S k (omega (arith, k_is)) (omega (arith, k_is, own_turn.below))
+      is_ready_k = is_ready_lem X plan offsets laid t l rel early i inside_S k (omega (arith, k_is)) (omega (arith, k_is, p.own_turn.below))
 
       ranked : rank_of (server_job i k) ≡ r
       ranked =
-          let e : mine i k ≡ r = ap (mine i) (p.number_is ∙ own_turn.is) ∙ own_turn.has in
+          let e : mine i k ≡ r = p.own_turn.has in
           omega (arith, rank_is X plan offsets laid t l rel early i k inside_S (omega (arith, k_is)), e)
 
       one_of_rank : J r ≡ server_job i k ∷ []
@@ -256,7 +252,7 @@ module _ (X : Box) (plan : Plan) (offsets : List ℕ) (laid : Laid X plan offset
           let row = rel.row i inside_S in
           let link : link_at l i k ≡ link_of S X.cap (whole S) (suc t) i k =
           row.link k (omega (arith, k_is)) (ready_is S σ t i k is_ready_k).pends.to in
-          rw (p.place_is, f.graph, f.node, link)
+          rw (f.graph, f.node, link)
 
   -- the lines of the first n ranks
   abbrev to_row : ℕ → Row
@@ -272,18 +268,16 @@ module _ (X : Box) (plan : Plan) (offsets : List ℕ) (laid : Laid X plan offset
       either_way (to_found offsets plan.period plan.level l.complete l.released (nodes_of plan) n (nodes_of plan))
       (λ q.
       let none = none_of_rank n h q in
-      rw (le-ltb 0 (of_rank plan offsets l n).number (omega (arith, q.is))) (lines n (omega arith) ∙ sym (later ∙ rw none (append-nil (map show (joined J 0 n))))))
+      rw q.is (lines n (omega arith) ∙ sym (later ∙ rw none (append-nil (map show (joined J 0 n))))))
       (λ q.
-      let x = of_rank plan offsets l n in
       let row = to_row n in
-      let new = line_of plan offsets l x in
+      let new = line_of plan offsets l (x n h q) in
       let one = one_of_rank n h q in
-      let some : 0 < x.number = omega (arith, q.number_is, q.some) in
       let taken : map running_of (take (row.count + 1) (set row.run row.count new)) ≡ running_in row ++ (running_of new ∷ []) =
       ap (λ (m : ℕ). map running_of (take m (set row.run row.count new))) (add-one row.count)
       ∙ ap (map running_of) (take-suc-set row.run row.count new (omega (arith, run_length plan offsets l n, few_lines plan offsets l n)))
       ∙ map-append running_of (take row.count row.run) (new ∷ []) in
-      rw (lt-ltb 0 x.number some)
+      rw q.is
       (taken
       ∙ ap (λ (m : List Running). m ++ (running_of new ∷ [])) (lines n (omega arith))
       ∙ ap (λ (y : Running). map show (joined J 0 n) ++ (y ∷ [])) (line n h q)

@@ -15,26 +15,28 @@ use Rattle.window.specs.declared.Plan.{Plan}
 use Rattle.window.proofs.Relation.{last_instant}
 use Rattle.ledger.specs.Entries.{worst_at}
 use Rattle.ledgerlaws.proofs.Relation.{Laid, Released}
-use Rattle.ledger.specs.declared.How.TheVariants.{Reached}
-use Rattle.ledger.specs.declared.Walk.{Walk}
+use Rattle.window.specs.declared.How.TheVariants.{Reached}
+use Rattle.ledger.specs.declared.Ledger.{Ledger}
+use Rattle.window.specs.declared.Walk.{Walk}
 use Rattle.ledger.specs.Walking.{walk_of}
-use Rattle.ledgerlaws.proofs.Ends.{how_of, Stops, Comes, walk_ends}
+use Rattle.window.proofs.Ends.{how_of}
+use Rattle.ledgerlaws.proofs.Ends.{Stops, Comes, walk_ends}
 
 module _ (X : Box) where
   abbrev pub stop : Stopped
   stop = stopped X (whole X.servers)
 
   -- it stopped as and when the rules' walk does, with the figures
-  pub record AtStop (w : Walk) : Type 0 where
+  pub record AtStop (w : Walk Ledger) : Type 0 where
     pub how : w.how ≡ how_of stop.how
     pub ticks : w.ticks ≡ stop.ticks
-    pub worst : (i : ℕ) → i < length X.servers → worst_at w.ledger i ≡ figure X (whole X.servers) i stop.ticks
+    pub worst : (i : ℕ) → i < length X.servers → worst_at w.state i ≡ figure X (whole X.servers) i stop.ticks
 
-  pub record BeforeStop (asked : ℕ) (w : Walk) : Type 0 where
+  pub record BeforeStop (asked : ℕ) (w : Walk Ledger) : Type 0 where
     pub how : w.how ≡ Reached
-    pub released : Released X asked w.ledger
+    pub released : Released X asked w.state
 
-  at_stop : (asked : ℕ) (w : Walk) → Stops X asked w → (stop.ticks ≤ asked) × AtStop w
+  at_stop : (asked : ℕ) (w : Walk Ledger) → Stops X asked w → (stop.ticks ≤ asked) × AtStop w
   at_stop asked w e =
       let (same, how) = first_stop_is_unique X (whole X.servers) e.stop stop.how w.ticks stop.ticks e.first (stopped_is_first X (whole X.servers)) in (
         omega (arith, e.by),
@@ -45,7 +47,7 @@ module _ (X : Box) where
         },
       )
 
-  before_stop : (asked : ℕ) (w : Walk) → Comes X asked w → (asked < stop.ticks) × BeforeStop asked w
+  before_stop : (asked : ℕ) (w : Walk Ledger) → Comes X asked w → (asked < stop.ticks) × BeforeStop asked w
   before_stop asked w e = (later, record { how = e.how; released = e.released })
     where
       later : asked < stop.ticks
@@ -59,7 +61,7 @@ module _ (X : Box) where
 
 module _ (X : Box) (plan : Plan) (offsets : List ℕ) (laid : Laid X plan offsets) (some : 0 < X.hyper)
     (time : X.origin + X.rounds * X.hyper ≤ last_instant) (asked : ℕ) where
-  abbrev w : Walk
+  abbrev w : Walk Ledger
   w = walk_of plan offsets X.origin X.hyper X.rounds asked
 
   pub walked_is : (((stop X).ticks ≤ asked) × AtStop X w) ⊎ ((asked < (stop X).ticks) × BeforeStop X asked w)

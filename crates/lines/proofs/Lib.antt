@@ -1,3 +1,4 @@
 pub mod KeyLaws
 pub mod LineLaws
 pub mod NumberedLaws
+pub mod Taking

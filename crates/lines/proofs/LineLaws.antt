@@ -18,7 +18,7 @@ use Rattle.theorems.proofs.Formed.{within_limits}
 use Rattle.schedule.proofs.Tests.{by_test}
 use Rattle.scanning.specs.Positions.{far, kept}
 use Rattle.scanning.specs.Masks.{mask_of, fair_list, listing, in_order}
-use Rattle.lines.specs.Lines.{misspelled, judge_by, closed, same, always, predecessors, line_judged}
+use Rattle.lines.specs.Lines.{judge_by, closed, same, always, predecessors}
 use Rattle.scanning.proofs.Predecessors.{in_order_lem, listing_mask}
 
 -- a value that was judged before LF was looked for
@@ -67,6 +67,11 @@ closed_list own w fault b =
     ap (λ (f : Bool). judge_by same (always f) fault (closed (listing predecessors own w).mask b)) (in_order_lem predecessors own w (omega arith))
     ∙ closed_value mask_of (fair_list predecessors own) fault w (listing predecessors own w).mask b (listing_mask predecessors own w)
 
+-- of a value that is fair it doesn't matter what would be at fault
+pub fair_alike : (f g : List ℕ) (x : Scan ℕ) → judge_by same (always true) f x ≡ judge_by same (always true) g x
+fair_alike f g (read v rest) = refl
+fair_alike f g (wrong rest) = refl
+
 -- behind its heading stands a line's value
 heading_read : (name b r : List ℕ) → read tt r ≡ heading name b → (drop (suc (length name)) b ≡ r) × (length r + suc (length name) ≡ length b)
 unfolding text
@@ -88,7 +93,3 @@ pub value_column_lem : (k : ℕ) (b r : List ℕ) → read tt r ≡ heading (key
 value_column_lem k b r e =
     let (d, l) = heading_read (key_at k).name b r e in
     rw d (omega arith)
-
--- a line without its heading
-pub headless : (k own : ℕ) (b r : List ℕ) → wrong r ≡ heading (key_at k).name b → misspelled r ≡ line_judged k own b
-headless k own b r e = by_test (eqb k Keys.after) (λ t. rw (t, ← e)) (λ t. rw (t, ← e))

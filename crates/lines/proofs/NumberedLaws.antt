@@ -1,13 +1,14 @@
 -- Lines with their numbers: what code makes of the lines it read is what the rules make of the bytes.
-use mathlib.Core.Path.{◌≡◌, refl, sym, ◌∙◌, ap, subst}
-use mathlib.Core.Bool.{Bool, true, false, ◌&&◌, cond, and-false}
+use mathlib.Core.Path.{◌≡◌, refl, sym, ◌∙◌, ap}
+use mathlib.Core.Bool.{Bool, true, false, ◌&&◌, and-false}
 use mathlib.Core.List.{List, [], ◌∷◌}
 use Prim.Native.Nat.{ℕ, suc, ◌+◌, ◌≤◌}
 use native.Mathlib.Numerals.{add-one}
 use native.Mathlib.Omega.{arith}
 use lib.Dec.{ltb, eqb}
-use lib.ListN.{drop}
+use lib.ListN.{drop, length}
 use borrow.Author.Tests.{eqb-true, ltb-true, le-leb}
+use Rattle.std.specs.Prelude.{Err}
 use Rattle.format.specs.declared.Refusal.{Refusal}
 use Rattle.format.specs.declared.Refusal.TheVariants.{Misspelled, OutsideLimits, AgainstPredecessorRules}
 use Rattle.schedule.specs.Limits as Limits
@@ -16,23 +17,18 @@ use Rattle.format.specs.Keys.{key_at}
 use Rattle.schedule.specs.Lists.{all?}
 use Rattle.format.specs.Spelling.{Scan, read, wrong, number, list, heading, line}
 use Rattle.schedule.specs.WellFormed.{within, rising, orderly}
-use Rattle.format.specs.Reading.{Place, Outcome, refused, done, ◌and_then◌, column_at, judged, value_column, value_in, number_line, offending, after_line}
+use Rattle.format.specs.Reading.{Place, Outcome, refused, done, column_at, judged, value_column, value_in, number_line, offending, after_line}
 use Rattle.theorems.proofs.Formed.{first_of_lem, second_of}
 use Rattle.rules.proofs.Outcomes.{Holds, then_holds, number_line_holds, after_line_holds}
 use Rattle.schedule.proofs.Tests.{by_test}
-use Rattle.table.specs.Limits.{coded}
-use Rattle.scanning.specs.Masks.{mask_of, in_range, fair_list}
-use Rattle.lines.specs.declared.judging.Line.{Line}
-use Rattle.lines.specs.declared.judging.Line.TheVariants as Line
-use Rattle.lines.specs.declared.judging.ThreeLines.{ThreeLines}
+use Rattle.table.specs.Limits.{coded, in_range}
+use Rattle.scanning.specs.Masks.{mask_of, fair_list}
+use Rattle.lines.specs.declared.judging.Fault.{Fault}
 use Rattle.lines.specs.declared.numbering.Place.{Place as Spot}
-use Rattle.lines.specs.declared.numbering.LineRead.{LineRead}
-use Rattle.lines.specs.declared.numbering.LineRead.TheVariants as LineRead
-use Rattle.lines.specs.declared.numbering.Three.{Three}
-use Rattle.lines.specs.declared.numbering.ThreeRead.{ThreeRead}
-use Rattle.lines.specs.Lines.{Judged, passed, misspelled, unfair, judge_by, same, predecessors, line_judged, judged_of, after, JudgedAt, ThreeJudged}
+use Rattle.lines.specs.Lines.{Judged, passed, misspelled, unfair, judge_by, same, predecessors, line_judged, judged_of}
 use Rattle.lines.proofs.LineLaws.{value_column_lem}
-use Rattle.lines.specs.Numbered.{map_outcome, place_of, coded_line, line_read_of, three_lines, three_read_of, unfair_at, numbered_line, ◌then-three◌, three_numbered}
+use Rattle.lines.proofs.Taking.{line_less}
+use Rattle.lines.specs.Numbered.{map_outcome, place_of, coded_line, three_lines, unfair_at, refusal_of}
 
 -- the judged line at a place, with its number and the column at fault, and the refusal of a value that is not fair
 abbrev numbered : (ℕ → ℕ → Refusal) → Place → Judged → Outcome ℕ
@@ -105,40 +101,42 @@ coded_numbered k own p h =
     scan : ℕ → Scan (List ℕ)
     scan i = line (key_at i).name list p.bytes
 
--- what code makes of a line that is judged so, in the rules' terms
-pub line_numbered : (s : List ℕ) (k own : ℕ) (p : Spot) (t : Line) → own ≤ (Limits.nodes).to → JudgedAt k own s p.at t
-    → line_read_of s (numbered_line s k p t) ≡ coded_line k own (place_of s p)
-line_numbered s k own p t h j = read_as t (ap (numbered (unfair_at k) (place_of s p)) j ∙ sym (coded_numbered k own (place_of s p) h))
+-- what code makes of a line that is judged so, in the rules' terms: a value, and a refusal
+module _ (s : List ℕ) (place : Spot) (k own : ℕ) (few : own ≤ (Limits.nodes).to) where
+  abbrev here : Place
+  here = place_of s place
+
+  pub line_read : (v p : ℕ) → passed v (drop p s) ≡ line_judged k own here.bytes
+      → done v (record { line = place.line + 1; bytes = drop p s }) ≡ coded_line k own here
+  line_read v p j =
+      ap (λ (n : ℕ). done v (record { line = n; bytes = drop p s })) (add-one place.line) ∙ ap (numbered (unfair_at k) here) j
+      ∙ sym (coded_numbered k own here few)
+
+  pub line_refused : (f : Fault) → judged_of s (Err f) ≡ line_judged k own here.bytes → refused (refusal_of s place k f) ≡ coded_line k own here
+  line_refused f j = same f ∙ ap (numbered (unfair_at k) here) j ∙ sym (coded_numbered k own here few)
+    where
+      same : (f : Fault) → refused (refusal_of s place k f) ≡ numbered (unfair_at k) here (judged_of s (Err f))
+      same (Fault.Misspelled p) = refl
+      same (Fault.Unfair p) = refl
+
+-- the next line follows, and leaves less
+pub coded_goes : (k own : ℕ) (p : Place) → own ≤ (Limits.nodes).to
+    → Holds (λ v q. (q.line ≡ suc p.line) × (length q.bytes + 1 ≤ length p.bytes)) (coded_line k own p)
+coded_goes k own p few = rw (coded_numbered k own p few) (goes (line_judged k own p.bytes) refl)
   where
-    read_as : (t : Line) → numbered (unfair_at k) (place_of s p) (judged_of s t) ≡ coded_line k own (place_of s p)
-        → line_read_of s (numbered_line s k p t) ≡ coded_line k own (place_of s p)
-    read_as (Line.Value v q) e = ap (λ (l : ℕ). done v (record { line = l; bytes = drop q s })) (add-one p.line) ∙ e
-    read_as (Line.Misspelled q) e = e
-    read_as (Line.Unfair q) e = e
+    goes : (x : Judged) → x ≡ line_judged k own p.bytes
+        → Holds (λ v q. (q.line ≡ suc p.line) × (length q.bytes + 1 ≤ length p.bytes)) (numbered (unfair_at k) p x)
+    goes (passed v rest) e = (refl, line_less k own v p.bytes rest e)
+    goes (misspelled rest) e = tt
+    goes (unfair rest) e = tt
 
--- where it has a value, the place is the one behind the line
-pub stands_behind : (s : List ℕ) (k : ℕ) (p : Spot) (t : Line) (v : ℕ) (q : Spot) → LineRead.Value v q ≡ numbered_line s k p t
-    → (q.line ≡ p.line + 1) × (q.at ≡ after t p.at)
-stands_behind s k p (Line.Value w i) v q e = ((cc), (cc))
-stands_behind s k p (Line.Misspelled i) v q e = absurd (let z : ◌≡◌ {A = ℕ} 0 1 = cc in omega arith)
-stands_behind s k p (Line.Unfair i) v q e = absurd (let z : ◌≡◌ {A = ℕ} 0 1 = cc in omega arith)
-
-then_alike : (s : List ℕ) (x : LineRead) (y : Outcome ℕ) (f : ℕ → Spot → ThreeRead) (F : ℕ → Place → Outcome Three) → line_read_of s x ≡ y
-    → ((v : ℕ) (q : Spot) → LineRead.Value v q ≡ x → three_read_of s (f v q) ≡ F v (place_of s q)) → three_read_of s (x then-three f) ≡ y and_then F
-then_alike s (LineRead.Value v q) y f F e h = h v q refl ∙ ap (λ (z : Outcome ℕ). z and_then F) e
-then_alike s (LineRead.Refused r) y f F e h = ap (λ (z : Outcome ℕ). z and_then F) e
-
-pub three_numbered_lem : (s : List ℕ) (k own : ℕ) (p : Spot) (got : ThreeLines) → own ≤ (Limits.nodes).to → ThreeJudged k own s p.at got
-    → three_read_of s (three_numbered s k p got) ≡ three_lines k own (place_of s p)
+pub three_go : (k l m own : ℕ) (p : Place) → own ≤ (Limits.nodes).to
+    → Holds (λ t q. (q.line ≡ p.line + 3) × (length q.bytes + 3 ≤ length p.bytes)) (three_lines k l m own p)
 unfolding three_lines
-three_numbered_lem s k own p got h j =
-    then_alike s (numbered_line s k p got.first) (coded_line k own (place_of s p)) _ _ (line_numbered s k own p got.first h j.0) (λ a q e.
-    let behind = (stands_behind s k p got.first a q e).1 in
-    then_alike s (numbered_line s (k + 1) q got.second) (coded_line (k + 1) own (place_of s q)) _ _
-    (line_numbered s (k + 1) own q got.second h (subst (λ (i : ℕ). JudgedAt (k + 1) own s i got.second) (sym behind) j.1)) (λ b r f.
-    let last = (stands_behind s (k + 1) q got.second b r f).1 ∙ ap (after got.second) behind in
-    then_alike s (numbered_line s (k + 2) r got.third) (coded_line (k + 2) own (place_of s r)) _ _
-    (line_numbered s (k + 2) own r got.third h (subst (λ (i : ℕ). JudgedAt (k + 2) own s i got.third) (sym last) j.2)) (λ c z g. refl)))
+three_go k l m own p few =
+    then_holds _ _ (coded_line k own p) _ (coded_goes k own p few) (λ a q h.
+    then_holds _ _ (coded_line l own q) _ (coded_goes l own q few) (λ b r i.
+    then_holds _ _ (coded_line m own r) _ (coded_goes m own r few) (λ c t j. (omega (arith, h.0, i.0, j.0), omega (arith, h.1, i.1, j.1)))))
 
 module _ (k own : ℕ) (p : Place) where
   -- the next line follows
@@ -158,10 +156,10 @@ module _ (k own : ℕ) (p : Place) where
       plain (done v q) h = h.1
 
 -- three lines, the last of which is that of a number
-pub three_holds : (k own : ℕ) (p : Place) → eqb (k + 2) Keys.after ≡ false
-    → Holds (λ t q. (within (key_at (k + 2)).range t.third ≡ true) × (q.line ≡ p.line + 3)) (three_lines k own p)
+pub three_holds : (k l m own : ℕ) (p : Place) → eqb m Keys.after ≡ false
+    → Holds (λ t q. (within (key_at m).range t.third ≡ true) × (q.line ≡ p.line + 3)) (three_lines k l m own p)
 unfolding three_lines
-three_holds k own p e =
+three_holds k l m own p e =
     then_holds _ _ (coded_line k own p) _ (coded_holds k own p) (λ a q h.
-    then_holds _ _ (coded_line (k + 1) own q) _ (coded_holds (k + 1) own q) (λ b r i.
-    rw e (then_holds _ _ (number_line (k + 2) r) _ (number_line_holds (k + 2) r) (λ n t j. (j.0, omega (arith, h, i, j.1))))))
+    then_holds _ _ (coded_line l own q) _ (coded_holds l own q) (λ b r i.
+    rw e (then_holds _ _ (number_line m r) _ (number_line_holds m r) (λ n t j. (j.0, omega (arith, h, i, j.1))))))

@@ -1,5 +1,5 @@
 -- A line judged, its number left aside: in the rules' terms, and what code answers.
-use Rattle.std.specs.Prelude.{Bool, cond, List, [], ◌∷◌, ◌≡◌, ℕ, ◌+◌, eqb, drop}
+use Rattle.std.specs.Prelude.{Bool, cond, List, [], ◌∷◌, ℕ, eqb, drop, Result, Ok, Err}
 use Rattle.format.specs.Bytes.{line_feed}
 use Rattle.format.specs.Keys as Keys
 use Rattle.format.specs.Keys.{key_at}
@@ -8,9 +8,7 @@ use Rattle.format.specs.Reading.{value_in, offending}
 use Rattle.schedule.specs.WellFormed.{within}
 use Rattle.table.specs.declared.Range.{Range}
 use Rattle.table.specs.Limits.{coded}
-use Rattle.lines.specs.declared.judging.Line.{Line}
-use Rattle.lines.specs.declared.judging.Line.TheVariants as Line
-use Rattle.lines.specs.declared.judging.ThreeLines.{ThreeLines}
+use Rattle.lines.specs.declared.judging.Fault.{Fault}
 use Rattle.scanning.specs.Masks.{mask_of, fair_list}
 
 -- a value and the bytes after the line; the bytes from where the spelling goes wrong; or a value that is not fair, and the bytes from what is at
@@ -50,26 +48,7 @@ line_judged k own s =
     (judge_by mask_of (fair_list predecessors own) (offending own (value_in k s)) (line (key_at k).name list s))
     (judge_by same (within (key_at k).range) (value_in k s) (line (key_at k).name number s))
 
-abbrev pub judged_of : List ℕ → Line → Judged
-judged_of s (Line.Value v p) = passed v (drop p s)
-judged_of s (Line.Misspelled p) = misspelled (drop p s)
-judged_of s (Line.Unfair p) = unfair (drop p s)
-
--- the position behind a line read at a position; where there was no such line, that position
-abbrev pub after : Line → ℕ → ℕ
-after (Line.Value v p) at = p
-after (Line.Misspelled p) at = at
-after (Line.Unfair p) at = at
-
--- three lines of key k and the two behind it, each read behind the one before it
-abbrev pub three_of : Line → Line → Line → ThreeLines
-three_of a b c = record { first = a; second = b; third = c }
-
-abbrev pub JudgedAt : ℕ → ℕ → List ℕ → ℕ → Line → Type 0
-JudgedAt k own s at r = judged_of s r ≡ line_judged k own (drop at s)
-
-abbrev pub ThreeJudged : ℕ → ℕ → List ℕ → ℕ → ThreeLines → Type 0
-ThreeJudged k own s at r =
-    JudgedAt k own s at r.first
-    × JudgedAt (k + 1) own s (after r.first at) r.second
-    × JudgedAt (k + 2) own s (after r.second (after r.first at)) r.third
+abbrev pub judged_of : List ℕ → Result (ℕ × ℕ) Fault → Judged
+judged_of s (Ok r) = passed r.0 (drop r.1 s)
+judged_of s (Err (Fault.Misspelled p)) = misspelled (drop p s)
+judged_of s (Err (Fault.Unfair p)) = unfair (drop p s)

@@ -1,25 +1,20 @@
-// Lines with their numbers: where reading stands, the values of a line and of three, and the refusal of the first that is misspelled, outside its
-// limits or against the predecessor rules, with its line and the column at fault.
+// The lines at a place of a text: the values of one and of three; what is refused is the first that is misspelled, outside its limits or
+// against the predecessor rules, with its number and the column at fault.
 ghost use Rattle.std.specs.Prelude.{◌≡◌, ◌+◌, ◌<◌, ◌≤◌, ◌^◌, length, drop};
 ghost use Rattle.schedule.specs.Limits as Limits;
 ghost use Rattle.format.specs.Reading.{column_at};
-ghost use Rattle.lines.specs.Numbered.{place_of, coded_line, line_read_of, unfair_at, numbered_line, three_numbered, three_lines, three_read_of};
+ghost use Rattle.table.specs.Keys.{place as row_of};
+ghost use Rattle.lines.specs.Numbered.{place_of, came_at, refusal_of, coded_line, three_lines};
 
-use crate::judging::{AFTER, Line, ThreeLines};
-use crate::reader::{line_at, three_lines};
+use crate::judging::{Fault, line_from};
 use format::Refusal;
+use table::Key;
 
 // Where reading stands: the number of the next line, and its position.
 #[derive(Clone, Copy)]
 pub struct Place {
     pub line: u32,
     pub at: usize,
-}
-
-#[derive(Clone, Copy)]
-pub enum LineRead {
-    Value(u32, Place),
-    Refused(Refusal),
 }
 
 // The values of three lines.
@@ -30,112 +25,75 @@ pub struct Three {
     pub third: u32,
 }
 
-#[derive(Clone, Copy)]
-pub enum ThreeRead {
-    Values(Three, Place),
-    Refused(Refusal),
-}
-
 // The column of what has no byte at fault: a missing successor, bytes after the last line.
 pub const FIRST_COLUMN: u32 = 1;
 
-// How many bytes stand from a position on.
-pub fn left_from(s: &[u8], p: usize) -> usize
-    ensures { result ≡ length (drop p s.now) }
-{
-    if p < s.len() { s.len() - p } else { 0 }
-}
-
-// The column of position p in the line that begins at a position, counted from 1.
-pub fn column_at(s: &[u8], at: usize, p: usize) -> u32
+// The column of position p in the line that begins at a place, counted from 1.
+fn column(s: &[u8], place: Place, p: usize) -> u32
     requires { length s.now ≤ (Limits.table_bytes).to }
-    ensures { result ≡ column_at (drop at s.now) (drop p s.now) }
+    ensures { result ≡ column_at (drop place.at s.now) (drop p s.now) }
 {
-    let line = left_from(s, at);
-    let rest = left_from(s, p);
-    if line < rest {
-        return FIRST_COLUMN;
-    }
-    (line - rest) as u32 + FIRST_COLUMN
+    let line = s.len().saturating_sub(place.at);
+    let rest = s.len().saturating_sub(p);
+    line.saturating_sub(rest) as u32 + FIRST_COLUMN
 }
 
-// A value of key k that is not fair: 4 of the key `after`, 3 of the others.
-pub fn unfair_at(k: usize, line: u32, column: u32) -> Refusal
-    ensures { result ≡ unfair_at k line column }
-{
-    if k == AFTER {
-        Refusal::AgainstPredecessorRules { line, column }
-    } else {
-        Refusal::OutsideLimits { line, column }
-    }
-}
-
-// A line of key k that was read at a place.
-pub fn numbered(s: &[u8], got: Line, place: Place, k: usize) -> LineRead
-    requires { (place.line + 1 < 2 ^ 32) × (length s.now ≤ (Limits.table_bytes).to) }
-    ensures { result ≡ numbered_line s.now k place got }
+// The line of key k at a place does not pass. A value that is not fair is 4 of the key `after`, and 3 of the others.
+fn refusal(s: &[u8], place: Place, k: Key, fault: Fault) -> Refusal
+    requires { length s.now ≤ (Limits.table_bytes).to }
+    ensures { result ≡ refusal_of s.now place (row_of k) fault }
 {
     let line = place.line;
-    let at = place.at;
-    match got {
-        Line::Value(v, p) => LineRead::Value(
-            v,
-            Place {
-                line: line + 1,
-                at: p,
-            },
-        ),
-        Line::Misspelled(p) => {
-            let column = column_at(s, at, p);
-            LineRead::Refused(Refusal::Misspelled { line, column })
-        }
-        Line::Unfair(p) => LineRead::Refused(unfair_at(k, line, column_at(s, at, p))),
-    }
-}
-
-// Three lines of key k and of the two keys behind it, read from a place on.
-pub fn three_numbered(s: &[u8], got: ThreeLines, place: Place, k: usize) -> ThreeRead
-    requires { (place.line + 3 < 2 ^ 32) × (k + 2 < 2 ^ 64) × (length s.now ≤ (Limits.table_bytes).to) }
-    ensures { result ≡ three_numbered s.now k place got }
-{
-    let one = got.first;
-    let two = got.second;
-    let three = got.third;
-    match numbered(s, one, place, k) {
-        LineRead::Refused(f) => ThreeRead::Refused(f),
-        LineRead::Value(first, p) => match numbered(s, two, p, k + 1) {
-            LineRead::Refused(f) => ThreeRead::Refused(f),
-            LineRead::Value(second, q) => match numbered(s, three, q, k + 2) {
-                LineRead::Refused(f) => ThreeRead::Refused(f),
-                LineRead::Value(third, r) => ThreeRead::Values(
-                    Three {
-                        first,
-                        second,
-                        third,
-                    },
-                    r,
-                ),
-            },
+    match fault {
+        Fault::Misspelled(p) => Refusal::Misspelled {
+            line,
+            column: column(s, place, p),
         },
+        Fault::Unfair(p) => {
+            let column = column(s, place, p);
+            match k {
+                Key::After => Refusal::AgainstPredecessorRules { line, column },
+                _ => Refusal::OutsideLimits { line, column },
+            }
+        }
     }
 }
 
-// The lines of key k and of the two keys behind it; of the key `after`, for node number own.
-pub fn three_at(s: &[u8], place: Place, k: usize, own: u32) -> ThreeRead
-    requires { (place.line + 3 < 2 ^ 32) × (k + 2 < 2 ^ 64) × (own ≤ (Limits.nodes).to) × (length s.now ≤ (Limits.table_bytes).to) }
-    ensures { three_read_of s.now result ≡ three_lines k own (place_of s.now place) }
+// The line of key k at a place; of the key `after`, for node number own. Its value, and the place behind it. (Inline, since at a key that the
+// compiler knows its name is compared at once.)
+#[inline]
+pub fn one_at(s: &[u8], place: Place, k: Key, own: u32) -> Result<(u32, Place), Refusal>
+    requires { (place.line + 1 < 2 ^ 32) × (own ≤ (Limits.nodes).to) × (length s.now ≤ (Limits.table_bytes).to) }
+    ensures { came_at s.now result ≡ coded_line (row_of k) own (place_of s.now place) }
 {
-    let at = place.at;
-    let got = three_lines(s, at, k, own);
-    three_numbered(s, got, place, k)
+    match line_from(s, place.at, k, own) {
+        Ok((v, at)) => {
+            let line = place.line + 1;
+            Ok((v, Place { line, at }))
+        }
+        Err(fault) => Err(refusal(s, place, k, fault)),
+    }
 }
 
-// The line of key k by itself, for a text whose lines do not stand by threes.
-pub fn one_at(s: &[u8], place: Place, k: usize) -> LineRead
-    requires { (place.line + 1 < 2 ^ 32) × (length s.now ≤ (Limits.table_bytes).to) }
-    ensures { line_read_of s.now result ≡ coded_line k 0 (place_of s.now place) }
+// The lines of three keys from a place on, one behind the other; of the key `after`, for node number own.
+pub fn three_at(
+    s: &[u8],
+    place: Place,
+    one: Key,
+    two: Key,
+    three: Key,
+    own: u32,
+) -> Result<(Three, Place), Refusal>
+    requires { (place.line + 3 < 2 ^ 32) × (own ≤ (Limits.nodes).to) × (length s.now ≤ (Limits.table_bytes).to) }
+    ensures { came_at s.now result ≡ three_lines (row_of one) (row_of two) (row_of three) own (place_of s.now place) }
 {
-    let at = place.at;
-    let got = line_at(s, at, k, 0);
-    numbered(s, got, place, k)
+    let (first, p) = one_at(s, place, one, own)?;
+    let (second, q) = one_at(s, p, two, own)?;
+    let (third, r) = one_at(s, q, three, own)?;
+    let values = Three {
+        first,
+        second,
+        third,
+    };
+    Ok((values, r))
 }

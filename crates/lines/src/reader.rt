@@ -1,58 +1,72 @@
-// The line reader: it holds the lent table and a position, reads the line there, and stands behind it afterwards. Each of its functions
-// takes it apart or makes it, and calls a function on the slice and the numbers. All others call `line_at` and `three_lines`, whose parameters
-// are plain.
-ghost use Rattle.std.specs.Prelude.{◌≡◌, ◌+◌, ◌<◌, ◌^◌, drop};
-ghost use Rattle.lines.specs.Lines.{line_judged, judged_of, after, JudgedAt, ThreeJudged};
+// The line reader: it holds the lent text and a place, reads the line there, and stands behind it afterwards.
+ghost use Rattle.std.specs.Prelude.{◌≡◌, ◌+◌, ◌<◌, ◌≤◌, length, drop, OnErr};
+ghost use Rattle.schedule.specs.Limits as Limits;
+ghost use Rattle.format.specs.Reading.{ended};
+ghost use Rattle.table.specs.Keys.{place as row_of};
 
-use crate::judging::{Line, ThreeLines, line_from, past, three_of};
+use crate::numbering::{FIRST_COLUMN, Place, Three, one_at, three_at};
+use format::Refusal;
+use table::Key;
 
+// Lines are counted from 1. No text that is read is longer than a table, and a line takes a byte or more: so no number of a line and no
+// column is large.
 #[derive(Clone, Copy)]
 pub struct Lines<'a> {
-    pub table: &'a [u8],
-    pub at: usize,
+    pub text: &'a [u8],
+    pub place: Place,
+    ghost begun: { 0 < place.line },
+    ghost whole: { length text.now ≤ (Limits.table_bytes).to },
+    ghost short: { place.line + length (drop place.at text.now) ≤ (Limits.table_bytes).to + 1 },
 }
 
-pub fn lines_at<'a>(table: &'a [u8], at: usize) -> Lines<'a>
-    ensures { (result.table ≡ table.entry) × (result.at ≡ at) }
-{
-    Lines { table, at }
-}
+impl<'a> Lines<'a> {
+    ghost use Rattle.lines.specs.Numbered.{stands, coded_line, three_lines, Reads};
 
-// The line of key k; of the key `after`, for node number own.
-pub fn line<'a>(l: Lines<'a>, k: usize, own: u32) -> Line
-    ensures { judged_of l.entry.table.now result ≡ line_judged k own (drop l.entry.at l.entry.table.now) }
-{
-    line_from(l.table, l.at, k, own)
-}
-
-// The reader behind the line that it read there; where there was none, it stays.
-pub fn behind<'a>(l: Lines<'a>, read: Line) -> Lines<'a>
-    ensures { (result.table ≡ l.entry.table) × (result.at ≡ after read l.entry.at) }
-{
-    Lines {
-        table: l.table,
-        at: past(read, l.at),
+    // At the first line of a text.
+    pub fn new(text: &'a [u8]) -> Lines<'a>
+        requires { length text.now ≤ (Limits.table_bytes).to }
+        ensures text { result.text ≡ text.entry }
+        ensures place { stands result ≡ record { line = 1; bytes = text.now } }
+    {
+        Lines {
+            text,
+            place: Place { line: 1, at: 0 },
+        }
     }
-}
 
-// The line of key k at a position; of the key `after`, for node number own.
-pub fn line_at(s: &[u8], at: usize, k: usize, own: u32) -> Line
-    ensures { JudgedAt k own s.now at result }
-{
-    let start = lines_at(s, at);
-    line(start, k, own)
-}
+    // The line of key k; of the key `after`, for node number own. A reader that refuses its line stays on it.
+    pub fn line(&mut self, k: Key, own: u32) -> Result<u32, Refusal>
+        requires { own ≤ (Limits.nodes).to }
+        ensures read { Reads self.old self.new result (coded_line (row_of k) own (stands self.old)) }
+        ensures stays { OnErr result (self.new ≡ self.old) }
+    {
+        let (v, next) = one_at(self.text, self.place, k, own)?;
+        self.place = next;
+        Ok(v)
+    }
 
-// The lines of key k and of the two keys behind it, one after another from a position on.
-pub fn three_lines(s: &[u8], at: usize, k: usize, own: u32) -> ThreeLines
-    requires { k + 2 < 2 ^ 64 }
-    ensures { ThreeJudged k own s.now at result }
-{
-    let start = lines_at(s, at);
-    let first = line(start, k, own);
-    let next = behind(start, first);
-    let second = line(next, k + 1, own);
-    let last = behind(next, second);
-    let third = line(last, k + 2, own);
-    three_of(first, second, third)
+    // The lines of three keys, one behind the other; of the key `after`, for node number own. A reader that refuses one of them stays on
+    // the first.
+    pub fn three(&mut self, one: Key, two: Key, three: Key, own: u32) -> Result<Three, Refusal>
+        requires { own ≤ (Limits.nodes).to }
+        ensures read { Reads self.old self.new result (three_lines (row_of one) (row_of two) (row_of three) own (stands self.old)) }
+        ensures stays { OnErr result (self.new ≡ self.old) }
+    {
+        let (values, next) = three_at(self.text, self.place, one, two, three, own)?;
+        self.place = next;
+        Ok(values)
+    }
+
+    // No bytes follow the last line.
+    pub fn end(&self) -> Result<(), Refusal>
+        ensures { Reads self.now self.now result (ended tt (stands self.now) (stands self.now).bytes) }
+    {
+        if self.place.at < self.text.len() {
+            return Err(Refusal::Misspelled {
+                line: self.place.line,
+                column: FIRST_COLUMN,
+            });
+        }
+        Ok(())
+    }
 }

@@ -7,7 +7,6 @@ use Rattle.schedule.specs.Servers.{Box, whole}
 use Rattle.schedule.specs.Walk.{Stop, settled, unsettled, backlog, Stopped, stopped, row_at}
 use Rattle.writing.specs.Row.{running_in}
 use Rattle.looking.specs.declared.End.{End}
-use Rattle.looking.specs.declared.End.TheVariants as End
 use Rattle.looking.specs.declared.Look.{Look}
 
 abbrev pub end_of : Stop → End

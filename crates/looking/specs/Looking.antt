@@ -10,7 +10,15 @@ use Rattle.writing.specs.Row.{running_in}
 use Rattle.repeating.specs.Moving.{far_row}
 use Rattle.looking.specs.declared.End.{End}
 use Rattle.looking.specs.declared.End.TheVariants.{Reached, Settled, Stopped}
+use Rattle.window.specs.declared.How.{How}
 use Rattle.looking.specs.declared.Look.{Look}
+
+-- how a walk to an instant ended, by how it stopped
+abbrev pub end_by : How → End
+end_by (How.Settled k) = End.Settled
+end_by How.Unsettled = End.Stopped
+end_by How.Backlog = End.Stopped
+end_by How.Reached = End.Reached
 
 abbrev pub says_row : Row → Reply
 says_row row = says (row_text (running_in row))

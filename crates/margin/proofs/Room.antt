@@ -1,13 +1,11 @@
 -- Every answer fits a buffer of a fixed length: no text of margins is longer than `longest_margins`. So a caller who lends that much is never
 -- refused as 10.
 use mathlib.Core.Path.{◌≡◌, refl, sym, ap, ◌∙◌}
-use mathlib.Core.Bool.{true}
 use mathlib.Core.List.{List, [], ◌∷◌, ◌++◌, tail}
-use Prim.Native.Nat.{ℕ, zero, suc, ◌+◌, ◌-◌, ◌*◌, ◌≤◌, ◌<◌}
+use Prim.Native.Nat.{ℕ, zero, suc, ◌-◌, ◌*◌, ◌≤◌, ◌<◌}
 use native.Mathlib.Omega.{arith}
 use lib.Dec.{leb}
 use lib.ListN.{length, get_or, length-append}
-use borrow.Author.Tests.{le-leb, lt-leb}
 use Rattle.schedule.specs.Limits as Limits
 use Rattle.schedule.specs.Table.{Table}
 use Rattle.schedule.specs.Servers.{Box, box_of, whole}
@@ -17,16 +15,15 @@ use Rattle.theorems.proofs.Formed.{within_limits}
 use Rattle.format.specs.Bytes.{bytes, line_feed, decimal}
 use Rattle.format.specs.Keys as Keys
 use Rattle.format.specs.Keys.{keys}
-use Rattle.format.specs.Reading.{Place, Outcome, refused, done, ◌and_then◌, number_line, ended}
-use Rattle.rules.specs.Admission as Admission
+use Rattle.format.specs.Reading.{Place, Outcome, refused, done, number_line, ended}
 use Rattle.rules.specs.Admission.{Admission, admitted, admission_of}
 use Rattle.rules.specs.Answers.{answer_line, says, refuses}
 use Rattle.rules.proofs.Outcomes.{Holds, told, then_holds, number_line_holds}
-use Rattle.margins.specs.Margins.{limits_from, limits_of, margin_line, margin_lines, margin_text, Margin, on_limits, margin_on, margin_admitted, margin_of}
+use Rattle.margins.specs.Margins.{limits_from, limits_of, margin_line, margin_lines, margin_text, Margin, on_limits, margin_on, margin_of}
 use Rattle.planning.proofs.NodeFits.{few}
 use Rattle.window.proofs.Walked.{stop}
-use Rattle.writing.specs.Line.{ended as ended_by, line}
-use Rattle.writing.specs.Lengths.{most_digits, longest_line}
+use Rattle.writing.specs.Line.{ended as ended_by}
+use Rattle.writing.specs.Lengths.{most_digits}
 use Rattle.writing.proofs.Counting.{digits_most}
 use Rattle.marginlines.specs.Lines.{longest_margin, longest_lines, longest_margins}
 use Rattle.marginlines.proofs.Margins.{kept_line, over_line}

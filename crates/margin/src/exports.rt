@@ -2,9 +2,10 @@
 ghost use Rattle.std.specs.Prelude.{◌≡◌};
 ghost use Rattle.margins.specs.Margins.{margin_of};
 ghost use Rattle.margins.specs.Kept.{TrueMargins};
-ghost use Rattle.margin.specs.Exports.{told_of, Told};
+ghost use Rattle.margin.specs.Exports.{Told};
 
-use crate::answering::{MarginAnswer, margin};
+use crate::answering::{MarginAnswer, MarginRefusal, margin};
+use sheet::PhalandrixAnswer;
 
 // 0, 0 and 0 with the text's length; or a refusal's number, line and column with length 0. `in_limits` is 1 where the refusal is of the limit text, and 0 else.
 #[repr(C)]
@@ -17,21 +18,25 @@ pub struct PhalandrixMargin {
     pub length: usize,
 }
 
-pub fn told(a: MarginAnswer) -> PhalandrixMargin
-    ensures { result ≡ told_of a }
-{
-    let answer = a.answer;
-    let t = sheet::told(answer);
-    let mut in_limits: u32 = 0;
-    if a.in_limits {
-        in_limits = 1;
-    }
-    PhalandrixMargin {
-        number: t.number,
-        line: t.line,
-        column: t.column,
-        in_limits,
-        length: t.length,
+impl From<MarginAnswer> for PhalandrixMargin {
+    ghost use Rattle.margin.specs.Exports.{told_of};
+
+    ghost from_gives = { λ a p. p ≡ told_of a };
+
+    fn from(answer: MarginAnswer) -> PhalandrixMargin {
+        let (answer, in_limits) = match answer {
+            Ok(length) => (Ok(length), 0),
+            Err(MarginRefusal::OfTable(r)) => (Err(r), 0),
+            Err(MarginRefusal::OfLimits(r)) => (Err(r), 1),
+        };
+        let told = PhalandrixAnswer::from(answer);
+        PhalandrixMargin {
+            number: told.number,
+            line: told.line,
+            column: told.column,
+            in_limits,
+            length: told.length,
+        }
     }
 }
 
@@ -39,5 +44,5 @@ pub fn phalandrix_margin(table: &[u8], limits: &[u8], buffer: &mut [u8]) -> Phal
     ensures call { Told result buffer.old buffer.new (margin_of table.now limits.now) }
     ensures kept { result.number ≡ 0 → TrueMargins table.now limits.now }
 {
-    told(margin(table, limits, buffer))
+    PhalandrixMargin::from(margin(table, limits, buffer))
 }

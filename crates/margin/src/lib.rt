@@ -5,5 +5,5 @@ mod answering;
 mod exports;
 mod writing_out;
 
-pub use answering::{MarginAnswer, margin};
+pub use answering::{MarginAnswer, MarginRefusal, margin};
 pub use exports::{PhalandrixMargin, phalandrix_margin};

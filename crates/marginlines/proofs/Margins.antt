@@ -5,12 +5,11 @@ use Prim.Native.Nat.{ℕ, zero, suc, ◌+◌, ◌≤◌, ◌<◌}
 use native.Mathlib.Nat.{not-suc-le-zero}
 use native.Mathlib.Numerals.{add-one}
 use native.Mathlib.Omega.{arith}
-use lib.Dec.{leb}
 use lib.ListN.{length, take, get_or, length-append}
-use lib.Seq.{get_or-take}
+use lib.Seq.{take_all}
 use borrow.Author.Tests.{le-leb, lt-leb}
 use Prim.Native.Nat.{◌-◌}
-use Rattle.format.specs.Bytes.{bytes, line_feed, decimal}
+use Rattle.format.specs.Bytes.{bytes, line_feed}
 use Rattle.rules.specs.Answers.{answer_line, response_lines, report_text}
 use Rattle.margins.specs.Margins.{margin_line, margin_lines, margin_text}
 use Rattle.writing.specs.Line.{ended, line}
@@ -63,29 +62,25 @@ lines_shorter (f ∷ fs) ls (suc k) (suc n) h =
       lines_shorter fs (tail ls) k n (omega arith),
     )
 
--- of n graphs, whose figures and limits stand in fs and ls
-module _ (fs ls : List ℕ) (n g : ℕ) (few : n ≤ length fs) (inside : g < n) where
-  abbrev limits : List ℕ
-  limits = take n ls
+-- of graphs whose figures and limits stand in fs and ls
+module _ (fs ls : List ℕ) (g : ℕ) (inside : g < length fs) where
+  pub graph_more : margin_lines (take g fs) ls ++ graph_lines (get_or ls g 0) (get_or fs g 0) ≡ margin_lines (take (g + 1) fs) ls
+  graph_more = sym (ap (λ (k : ℕ). margin_lines (take k fs) ls) (add-one g) ∙ lines_more fs ls g inside)
 
-  pub graph_more : margin_lines (take g fs) limits ++ graph_lines (get_or ls g 0) (get_or fs g 0) ≡ margin_lines (take (g + 1) fs) limits
-  graph_more =
-      sym (ap (λ (k : ℕ). margin_lines (take k fs) limits) (add-one g) ∙ lines_more fs limits g (omega arith)
-      ∙ ap (λ (l : ℕ). margin_lines (take g fs) limits ++ graph_lines l (get_or fs g 0)) (get_or-take n ls g 0 inside))
-
-  pub graph_fits : length (margin_lines (take g fs) limits) + length (graph_lines (get_or ls g 0) (get_or fs g 0)) ≤ length (margin_lines (take n fs) limits)
+  pub graph_fits : length (margin_lines (take g fs) ls) + length (graph_lines (get_or ls g 0) (get_or fs g 0)) ≤ length (margin_lines fs ls)
   graph_fits =
       omega (
         arith,
         ap length graph_more,
-        length-append (margin_lines (take g fs) limits) (graph_lines (get_or ls g 0) (get_or fs g 0)),
-        lines_shorter fs limits (g + 1) n (omega arith),
+        length-append (margin_lines (take g fs) ls) (graph_lines (get_or ls g 0) (get_or fs g 0)),
+        lines_shorter fs ls (g + 1) (length fs) (omega arith),
+        ap (λ (l : List ℕ). length (margin_lines l ls)) (take_all (length fs) fs (omega arith)),
       )
 
 -- the head of the text is the report of no graph
-pub head_first : (round ticks : ℕ) (fs ls any : List ℕ) → report_text round ticks (take 0 any) ++ margin_lines fs ls ≡ margin_text round ticks fs ls
+pub head_first : (round ticks : ℕ) (fs ls : List ℕ) → report_text round ticks [] ++ margin_lines fs ls ≡ margin_text round ticks fs ls
 unfolding report_text response_lines margin_text
-head_first round ticks fs ls any =
+head_first round ticks fs ls =
     let a : List ℕ = answer_line "answer" 0 in
     let r : List ℕ = answer_line "round" round in
     let t : List ℕ = answer_line "ticks" ticks in

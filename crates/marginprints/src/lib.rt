@@ -6,15 +6,29 @@ ghost use Rattle.schedule.specs.Limits.{table_bytes, limit_bytes};
 ghost use Rattle.margins.specs.Margins.{margin_of};
 ghost use Rattle.marginlines.specs.Lines.{longest_margins};
 ghost use Rattle.printing.specs.Rooms.{Holds};
+ghost use Rattle.rules.specs.Answers.{refuses, printed};
+ghost use Rattle.writing.specs.Written.{Written};
 ghost use Rattle.marginprints.specs.Printed.{PrintedAs};
 
-use rules::Answer;
+use format::Refusal;
+use margin::MarginRefusal;
 
-// The length of what is printed, and whether it is a refusal of the limit text, so that people can be told.
+// The length of what is printed, and whether it is a refusal of the limit text, so that people can be told. A text is printed in each case, so
+// there is nothing here that an Option or a Result would say.
 #[derive(Clone, Copy)]
 pub struct MarginPrinted {
     pub length: usize,
     pub in_limits: bool,
+}
+
+// A refusal's number, line and column, at the start of `text`.
+fn put_refused(text: &mut [u8], f: Refusal) -> usize
+    requires { longest_margins ≤ length text.old }
+    ensures { Written (printed (refuses f)) text.old text.new result }
+{
+    let n = writing::refusal_length(f);
+    writing::put_refusal(text, f);
+    n
 }
 
 // The text of the margins, or a refusal's number, line and column, at the start of `text`. There is room for every text, so none is refused as 10.
@@ -22,16 +36,19 @@ pub fn put_margin(table: &[u8], limits: &[u8], text: &mut [u8]) -> MarginPrinted
     requires { longest_margins ≤ length text.old }
     ensures { PrintedAs (margin_of table.now limits.now) text.old text.new result }
 {
-    let a = margin::margin(table, limits, &mut *text);
-    let in_limits = a.in_limits;
-    let answer = a.answer;
-    match answer {
-        Answer::Text(length) => MarginPrinted { length, in_limits },
-        Answer::Refused(f) => {
-            let length = writing::refusal_length(f);
-            writing::put_refusal(&mut *text, f);
-            MarginPrinted { length, in_limits }
-        }
+    match margin::margin(table, limits, &mut *text) {
+        Ok(length) => MarginPrinted {
+            length,
+            in_limits: false,
+        },
+        Err(MarginRefusal::OfTable(f)) => MarginPrinted {
+            length: put_refused(text, f),
+            in_limits: false,
+        },
+        Err(MarginRefusal::OfLimits(f)) => MarginPrinted {
+            length: put_refused(text, f),
+            in_limits: true,
+        },
     }
 }
 

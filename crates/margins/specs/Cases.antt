@@ -1,13 +1,11 @@
 -- Worked cases of document 02's R-12: what is printed of a table and its limits, in which text a refusal stands, and calls with a lent
 -- buffer. They are computed in proofs/Cases.antt.
-use Rattle.std.specs.Prelude.{Bool, true, false, List, [], ◌∷◌, ◌++◌, ℕ, replicate}
+use Rattle.std.specs.Prelude.{Bool, true, false, List, [], ◌∷◌, ◌++◌, ℕ, replicate, Ok, Err}
 use Prim.Native.String.{String}
 use Rattle.format.specs.declared.Refusal.{Refusal}
 use Rattle.format.specs.declared.Refusal.TheVariants.{TooLong, Misspelled, OutsideLimits, Unsettled, ShortBuffer}
 use Rattle.format.specs.Bytes.{bytes, line_feed}
 use Rattle.schedule.specs.Walk.{Stop, unsettled, backlog}
-use Rattle.rules.specs.declared.Answer.{Answer}
-use Rattle.rules.specs.declared.Answer.TheVariants.{Text, Refused}
 use Rattle.rules.specs.Answers.{Call}
 use Rattle.rules.specs.Cases.{chain_1_1, chain_1_1_in_1_round, chain_3_2, two_graphs_lem, eight_every_1, lent}
 
@@ -74,10 +72,10 @@ pub record CallCase : Type 0 where
   pub gives : Call
 
 abbrev pub leaves : String → String → ℕ → Refusal → CallCase
-leaves T l n r = record { table = T; limits = l; room = n; gives = record { answer = Refused r; buffer = lent n } }
+leaves T l n r = record { table = T; limits = l; room = n; gives = record { answer = Err r; buffer = lent n } }
 
 abbrev pub writes : String → String → ℕ → ℕ → String → ℕ → CallCase
-writes T l room n s more = record { table = T; limits = l; room = room; gives = record { answer = Text n; buffer = bytes s ++ lent more } }
+writes T l room n s more = record { table = T; limits = l; room = room; gives = record { answer = Ok n; buffer = bytes s ++ lent more } }
 
 unfoldable pub call_cases : List CallCase
 call_cases =

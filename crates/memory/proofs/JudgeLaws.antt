@@ -1,29 +1,28 @@
 -- Judgements taken apart, line by line: what a passed one says, and one node or graph more.
-use mathlib.Core.Path.{◌≡◌, refl, sym, ap, subst, ◌∙◌}
-use mathlib.Core.Bool.{Bool, true, false, not}
+use mathlib.Core.Path.{◌≡◌, refl, sym}
+use mathlib.Core.Bool.{true}
 use mathlib.Core.List.{List}
-use Prim.Native.Nat.{ℕ, zero, suc, ◌+◌, ◌-◌, ◌*◌, ◌<◌, ◌≤◌}
+use Prim.Native.Nat.{ℕ, suc, ◌+◌, ◌-◌, ◌<◌, ◌≤◌}
 use native.Mathlib.Numerals.{add-one}
 use native.Mathlib.Omega.{arith}
 use lib.Dec.{leb}
-use lib.ListN.{length, get_or}
-use borrow.Author.Tests.{leb-true, le-leb, lt-leb, not-true, not-false}
+use Rattle.std.proofs.Common.{length, get_or, drop, map}
+use Rattle.std.proofs.Math.ListN.{drop_of_length-le}
+use Rattle.std.proofs.Math.Seq.{drop-cons}
+use borrow.Author.Tests.{leb-true, le-leb, lt-leb}
 use Rattle.schedule.specs.Limits as Limits
-use Rattle.schedule.specs.Table.{Node, Graph}
-use Rattle.schedule.specs.WellFormed.{within, orderly, all_followed}
+use Rattle.schedule.specs.WellFormed.{within}
 use Rattle.schedule.proofs.Tests.{by_test}
 use Rattle.theorems.proofs.Formed.{within_limits}
 use Rattle.format.specs.declared.Refusal.{Refusal}
-use Rattle.format.specs.declared.Refusal.TheVariants.{OutsideLimits, AgainstPredecessorRules}
+use Rattle.format.specs.declared.Refusal.TheVariants.{OutsideLimits}
 use Rattle.format.specs.Keys as Keys
 use Rattle.format.specs.Keys.{keys, key_at}
-use Rattle.writer.specs.Judging.{Judgement, passes, fails, ◌then◌, no_column, number_at, after_at, node_at, nodes_at, successors_at, graph_nodes_at, graph_at, graphs_at}
+use Rattle.writer.specs.Judging.{Judgement, passes, fails, ◌then◌, no_column, number_at, node_at, nodes_at, successors_at, graph_nodes_at, graph_at, graphs_at}
 use Rattle.memory.specs.declared.plain.PhalandrixNode.{PhalandrixNode}
 use Rattle.memory.specs.declared.plain.PhalandrixGraph.{PhalandrixGraph}
-use Rattle.memory.specs.declared.judging.Judged.{Judged}
-use Rattle.memory.specs.declared.judging.Judged.TheVariants.{Passes, Refused}
 use Rattle.memory.specs.Plain.{no_node, no_graph, node_in, nodes_in, graph_in, graphs_in}
-use Rattle.memory.specs.Judged.{outside_at, against_at, judged_as, three_at}
+use Rattle.memory.specs.Judged.{three_at}
 use Rattle.memory.proofs.Named.{nodes_counted}
 
 -- two that are not the same
@@ -48,93 +47,30 @@ number_passed : (k v l m : ℕ) → number_at k v l ≡ passes m → within (key
 unfolding number_at
 number_passed k v l m e = by_test (within (key_at k).range v) (λ t. t) (λ t. fails_passes (rw t at e))
 
--- a test that code made
-pub failed : {r w : Bool} → r ≡ w → not r ≡ true → w ≡ false
-failed {r} e h = sym e ∙ not-true r h
-
-pub passed : {r w : Bool} → r ≡ w → not r ≡ false → w ≡ true
-passed {r} e h = sym e ∙ not-false r h
-
--- three lines
-module _ (k a b c l : ℕ) where
-  pub three_first : (r : Judged) → within (key_at k).range a ≡ false → r ≡ outside_at l → judged_as (l + 3) r ≡ three_at k a b c l
-  unfolding number_at
-  three_first r e f = rw (f, e) refl
-
-  pub three_second : (r : Judged) → within (key_at k).range a ≡ true → within (key_at (k + 1)).range b ≡ false → r ≡ outside_at (l + 1) → judged_as (l + 3) r ≡ three_at k a b c l
-  unfolding number_at
-  three_second r d e f = rw (f, d, e) (ap (λ (n : ℕ). fails (OutsideLimits n no_column)) (add-one l))
-
-  pub three_third : (r : Judged) → within (key_at k).range a ≡ true → within (key_at (k + 1)).range b ≡ true → within (key_at (k + 2)).range c ≡ false → r ≡ outside_at (l + 2)
-      → judged_as (l + 3) r ≡ three_at k a b c l
-  unfolding number_at
-  three_third r g d e f = rw (f, g, d, e) (ap (λ (n : ℕ). fails (OutsideLimits n no_column)) (omega arith))
-
-  pub three_pass : within (key_at k).range a ≡ true → within (key_at (k + 1)).range b ≡ true → within (key_at (k + 2)).range c ≡ true
-      → passes (l + 3) ≡ three_at k a b c l
-  unfolding number_at
-  three_pass g d e = rw (g, d, e) (ap passes (omega arith))
-
 -- each is within its limits where they pass
-pub three_passed : (k a b c l m : ℕ) → three_at k a b c l ≡ passes m
-    → (within (key_at k).range a ≡ true) × (within (key_at (k + 1)).range b ≡ true) × (within (key_at (k + 2)).range c ≡ true)
-three_passed k a b c l m =
-    then_passed (number_at k a l) _ m (λ l1 e1.
-    then_passed (number_at (k + 1) b l1) _ m (λ l2 e2 e3.
-    (number_passed k a l l1 e1, number_passed (k + 1) b l1 l2 e2, number_passed (k + 2) c l2 m e3)))
+pub three_passed : (i a j b k c l m : ℕ) → three_at i a j b k c l ≡ passes m
+    → (within (key_at i).range a ≡ true) × (within (key_at j).range b ≡ true) × (within (key_at k).range c ≡ true)
+three_passed i a j b k c l m =
+    then_passed (number_at i a l) _ m (λ l1 e1.
+    then_passed (number_at j b l1) _ m (λ l2 e2 e3.
+    (number_passed i a l l1 e1, number_passed j b l1 l2 e2, number_passed k c l2 m e3)))
 
--- a node
-module _ (x : PhalandrixNode) (own l : ℕ) where
-  pub node_first : (r : Judged) → within (key_at Keys.budget).range x.budget ≡ false → r ≡ outside_at l → judged_as (l + 3) r ≡ node_at own (node_in x) l
-  unfolding node_at number_at
-  node_first r e f = rw (f, e) refl
-
-  pub node_second : (r : Judged) → within (key_at Keys.budget).range x.budget ≡ true → within (key_at Keys.level).range x.level ≡ false → r ≡ outside_at (l + 1)
-      → judged_as (l + 3) r ≡ node_at own (node_in x) l
-  unfolding node_at number_at
-  node_second r d e f = rw (f, d, e) (ap (λ (n : ℕ). fails (OutsideLimits n no_column)) (add-one l))
-
-  pub node_third : (r : Judged) → within (key_at Keys.budget).range x.budget ≡ true → within (key_at Keys.level).range x.level ≡ true
-      → orderly own (node_in x).after ≡ false → r ≡ against_at (l + 2) → judged_as (l + 3) r ≡ node_at own (node_in x) l
-  unfolding node_at number_at after_at
-  node_third r g d e f = rw (f, g, d, e) (ap (λ (n : ℕ). fails (AgainstPredecessorRules n no_column)) (omega arith))
-
-  pub node_pass : within (key_at Keys.budget).range x.budget ≡ true → within (key_at Keys.level).range x.level ≡ true
-      → orderly own (node_in x).after ≡ true → passes (l + 3) ≡ node_at own (node_in x) l
-  unfolding node_at number_at after_at
-  node_pass g d e = rw (g, d, e) (ap passes (omega arith))
-
--- the nodes from number own on
-module _ (nodes : List PhalandrixNode) (slot n own l : ℕ) where
+-- the nodes from number i + 1 on
+module _ (nodes : List PhalandrixNode) (i l : ℕ) (more : i < length nodes) where
   abbrev here : Judgement
-  here = node_at own (node_in (get_or nodes slot no_node)) l
+  here = node_at (i + 1) (node_in (get_or nodes i no_node)) l
 
-  pub nodes_one : own ≤ n → (m : ℕ) → passes m ≡ here
-      → nodes_at own (nodes_in nodes slot (suc n - own)) l ≡ nodes_at (own + 1) (nodes_in nodes (slot + 1) (suc n - (own + 1))) m
+  pub nodes_one : (m : ℕ) → passes m ≡ here → nodes_at (i + 1) (map node_in (drop i nodes)) l ≡ nodes_at (i + 1 + 1) (map node_in (drop (i + 1) nodes)) m
   unfolding nodes_at
-  nodes_one h m e =
-      let f : suc n - own ≡ suc (suc n - (own + 1)) = omega arith in
-      rw (f, sym e, add-one own, add-one slot) refl
+  nodes_one m e = rw (drop-cons nodes i no_node more, sym e, add-one i, add-one (suc i)) refl
 
-  pub nodes_stop : own ≤ n → (r : Refusal) → fails r ≡ here → nodes_at own (nodes_in nodes slot (suc n - own)) l ≡ fails r
+  pub nodes_stop : (r : Refusal) → fails r ≡ here → nodes_at (i + 1) (map node_in (drop i nodes)) l ≡ fails r
   unfolding nodes_at
-  nodes_stop h r e =
-      let f : suc n - own ≡ suc (suc n - (own + 1)) = omega arith in
-      rw (f, sym e) refl
+  nodes_stop r e = rw (drop-cons nodes i no_node more, sym e) refl
 
-  pub nodes_none : n < own → nodes_at own (nodes_in nodes slot (suc n - own)) l ≡ passes l
-  unfolding nodes_at
-  nodes_none h = let f : suc n - own ≡ 0 = omega arith in rw f refl
-
--- the successors of nodes that pass
-module _ (xs : List Node) (l : ℕ) where
-  pub successors_pass : all_followed xs ≡ true → passes l ≡ successors_at xs l
-  unfolding successors_at
-  successors_pass e = rw e refl
-
-  pub successors_fail : (r : Judged) → r ≡ against_at (l - 1) → all_followed xs ≡ false → judged_as l r ≡ successors_at xs l
-  unfolding successors_at
-  successors_fail r f e = rw (f, e) refl
+pub nodes_none : (nodes : List PhalandrixNode) (i l : ℕ) → length nodes ≤ i → nodes_at (i + 1) (map node_in (drop i nodes)) l ≡ passes l
+unfolding nodes_at
+nodes_none nodes i l h = rw (drop_of_length-le nodes h) refl
 
 -- a graph's nodes
 module _ (nodes : List PhalandrixNode) (total n l m : ℕ) where
@@ -162,7 +98,7 @@ module _ (nodes : List PhalandrixNode) (total n l m : ℕ) where
 -- a graph
 module _ (g : PhalandrixGraph) (nodes : List PhalandrixNode) (total l : ℕ) where
   abbrev head : Judgement
-  head = three_at Keys.period g.period g.offset g.nodes l
+  head = three_at Keys.period g.period Keys.offset g.offset Keys.nodes g.nodes l
 
   pub graph_stop : (r : Refusal) → fails r ≡ head → fails r ≡ graph_at total (graph_in nodes total g) l
   unfolding graph_at
@@ -174,14 +110,14 @@ module _ (g : PhalandrixGraph) (nodes : List PhalandrixNode) (total l : ℕ) whe
   pub graph_pass : (m : ℕ) → passes m ≡ head → graph_nodes_at total (nodes_in nodes total g.nodes) (l + 2) (l + 2 + 1) ≡ graph_at total (graph_in nodes total g) l
   unfolding graph_at number_at
   graph_pass m e =
-      let (a, b, c) = three_passed Keys.period g.period g.offset g.nodes l m (sym e) in
+      let (a, b, c) = three_passed Keys.period g.period Keys.offset g.offset Keys.nodes g.nodes l m (sym e) in
       let x : l + 2 ≡ suc (suc l) = omega arith in
       let y : l + 2 + 1 ≡ suc (suc (suc l)) = omega arith in
       rw (nodes_counted nodes total g.nodes, a, b, c, y, x) refl
 
   pub head_few : (m : ℕ) → passes m ≡ head → (1 ≤ g.nodes) × (g.nodes ≤ (Limits.nodes).to)
   unfolding keys
-  head_few m e = within_limits Limits.nodes g.nodes (three_passed Keys.period g.period g.offset g.nodes l m (sym e)).2
+  head_few m e = within_limits Limits.nodes g.nodes (three_passed Keys.period g.period Keys.offset g.offset Keys.nodes g.nodes l m (sym e)).2
 
   pub graph_passed : (m : ℕ) → passes m ≡ graph_at total (graph_in nodes total g) l → (g.nodes ≤ (Limits.nodes).to) × (total + g.nodes ≤ (Limits.all_nodes).to)
   unfolding graph_at keys

@@ -3,3 +3,4 @@ pub mod Named
 pub mod GraphCounts
 pub mod JudgeLaws
 pub mod TableLaws
+pub mod Zeros

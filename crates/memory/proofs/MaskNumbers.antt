@@ -1,6 +1,6 @@
 -- The numbers in a mask: which they are (`in_mask`), and when they may be a node's predecessors (`zero_orderly`, `mask_orderly`).
 use mathlib.Core.Path.{◌≡◌, refl, sym, ap, ◌∙◌}
-use mathlib.Core.Bool.{Bool, true, false, ◌&&◌, ◌||◌, cond, false≢true}
+use mathlib.Core.Bool.{Bool, true, false, ◌&&◌, cond, false≢true}
 use mathlib.Core.List.{List, [], ◌∷◌}
 use Prim.Native.Nat.{ℕ, zero, suc, ◌+◌, ◌-◌, ◌/◌, ◌%◌, ◌^◌, ◌<◌, ◌≤◌}
 use native.Mathlib.Nat.{lt_of_lt_of_le, lt_of_le_of_lt, one-mul, div-le_self, div-lt_iff_lt-mul, div-div-eq-div-mul}

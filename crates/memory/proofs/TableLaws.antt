@@ -1,13 +1,12 @@
 -- The judgement of a table: the head's three lines, then the graphs.
 use mathlib.Core.Path.{◌≡◌, refl, sym}
 use Prim.Native.Nat.{ℕ, ◌≤◌}
-use lib.ListN.{length}
 use Rattle.schedule.specs.Limits as Limits
 use Rattle.theorems.proofs.Formed.{within_limits}
 use Rattle.format.specs.declared.Refusal.{Refusal}
 use Rattle.format.specs.Keys as Keys
 use Rattle.format.specs.Keys.{keys}
-use Rattle.writer.specs.Judging.{Judgement, passes, fails, ◌then◌, number_at, graphs_at, table_at}
+use Rattle.writer.specs.Judging.{Judgement, passes, fails, number_at, graphs_at, table_at}
 use Rattle.memory.specs.declared.plain.PhalandrixTable.{PhalandrixTable}
 use Rattle.memory.specs.Plain.{graphs_in, table_in}
 use Rattle.memory.specs.Judged.{three_at}
@@ -16,11 +15,11 @@ use Rattle.memory.proofs.JudgeLaws.{stopped, then_stopped, three_passed}
 
 module _ (t : PhalandrixTable) where
   abbrev head : Judgement
-  head = three_at Keys.processors t.processors t.rounds t.graphs 1
+  head = three_at Keys.processors t.processors Keys.rounds t.rounds Keys.graphs t.graphs 1
 
   pub table_few : (m : ℕ) → passes m ≡ head → t.graphs ≤ (Limits.graphs).to
   unfolding keys
-  table_few m e = (within_limits Limits.graphs t.graphs (three_passed Keys.processors t.processors t.rounds t.graphs 1 m (sym e)).2).1
+  table_few m e = (within_limits Limits.graphs t.graphs (three_passed Keys.processors t.processors Keys.rounds t.rounds Keys.graphs t.graphs 1 m (sym e)).2).1
 
   pub table_stop : (r : Refusal) → fails r ≡ head → fails r ≡ table_at (table_in t) 1
   unfolding table_at
@@ -32,5 +31,5 @@ module _ (t : PhalandrixTable) where
   pub table_pass : (m : ℕ) → passes m ≡ head → graphs_at 0 (graphs_in t.graph t.node 0 0 t.graphs) 4 ≡ table_at (table_in t) 1
   unfolding table_at number_at
   table_pass m e =
-      let (a, b, c) = three_passed Keys.processors t.processors t.rounds t.graphs 1 m (sym e) in
+      let (a, b, c) = three_passed Keys.processors t.processors Keys.rounds t.rounds Keys.graphs t.graphs 1 m (sym e) in
       rw (graphs_counted t.graph t.node 0 0 t.graphs, a, b, c) refl

@@ -1,7 +1,8 @@
 -- What a table in memory says as a table of the rules (R-4). Any content says one: entries past an array's end are all zeros, and a node's place
 -- comes from the counts before it. What stands past the counts says nothing.
-use Rattle.std.specs.Prelude.{List, [], ◌∷◌, ℕ, zero, suc, ◌+◌, ◌-◌, get_or}
+use Rattle.std.specs.Prelude.{List, [], ◌∷◌, ℕ, zero, suc, ◌+◌, ◌-◌, get_or, replicate}
 use Rattle.schedule.specs.Lists.{keep, tab, up_to}
+use Rattle.schedule.specs.Limits as Limits
 use Rattle.schedule.specs.Table as Rules
 use Rattle.numbers.specs.Masks.{width, bit}
 use Rattle.memory.specs.declared.plain.PhalandrixNode.{PhalandrixNode}
@@ -13,6 +14,17 @@ no_node = record { budget = 0; level = 0; after = 0 }
 
 abbrev pub no_graph : PhalandrixGraph
 no_graph = record { period = 0; offset = 0; nodes = 0 }
+
+-- all zeros
+abbrev pub no_table : PhalandrixTable
+no_table =
+    record {
+      processors = 0;
+      rounds = 0;
+      graphs = 0;
+      graph = replicate (Limits.graphs).to no_graph;
+      node = replicate (Limits.all_nodes).to no_node;
+    }
 
 -- the numbers in a mask, rising: p where bit p - 1 is set, any bit of the mask
 unfoldable pub numbers_in : ℕ → List ℕ

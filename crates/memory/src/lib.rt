@@ -5,5 +5,5 @@
 mod judging;
 mod plain;
 
-pub use judging::{Judged, table_judged};
+pub use judging::table_judged;
 pub use plain::{PhalandrixGraph, PhalandrixNode, PhalandrixTable};

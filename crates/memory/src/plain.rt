@@ -3,7 +3,7 @@ use table::Table;
 
 // Bit p - 1 of `after` is set for each predecessor p.
 #[repr(C)]
-#[derive(Clone, Copy)]
+#[derive(Clone, Copy, Default)]
 pub struct PhalandrixNode {
     pub budget: u32,
     pub level: u32,
@@ -12,7 +12,7 @@ pub struct PhalandrixNode {
 
 // `nodes` is how many nodes it has.
 #[repr(C)]
-#[derive(Clone, Copy)]
+#[derive(Clone, Copy, Default)]
 pub struct PhalandrixGraph {
     pub period: u32,
     pub offset: u32,
@@ -22,7 +22,7 @@ pub struct PhalandrixGraph {
 // The first `graphs` of `graph` are the table's. Their nodes stand one after the other in `node`, graph after graph, from its start on: a
 // graph's first node is found by counting those of the graphs before it. Nobody looks at what stands past the counts.
 #[repr(C)]
-#[derive(Clone, Copy)]
+#[derive(Clone, Copy, Default)]
 pub struct PhalandrixTable {
     pub processors: u32,
     pub rounds: u32,

@@ -1,22 +1,22 @@
 -- What a step changed, byte by byte: a carriage return in the line, a blank at its end, a zero that went.
 use mathlib.Core.Path.{◌≡◌, refl, sym, ap, ◌∙◌}
-use mathlib.Core.Bool.{Bool, true, false, not, ◌&&◌, ◌||◌, cond}
+use mathlib.Core.Bool.{Bool, true, false, not, ◌||◌, cond}
 use mathlib.Core.List.{List, [], ◌∷◌, ◌++◌}
-use Prim.Native.Nat.{ℕ, zero, suc, ◌≤◌, ◌<◌}
+use Prim.Native.Nat.{ℕ, zero, suc}
 use native.Mathlib.Omega.{arith}
 use lib.Dec.{eqb}
-use lib.ListN.{length, replicate}
-use borrow.Author.Tests.{eqb-true, eq-eqb, ne_eqb}
+use lib.ListN.{replicate}
+use borrow.Author.Tests.{eqb-true, ne_eqb}
 use Rattle.format.specs.Bytes.{equals, digit_zero, is_digit}
 use Rattle.schedule.specs.Lists.{keep}
 use Rattle.schedule.proofs.Tests.{by_test}
 use Rattle.salvaging.specs.Lines.{empty?}
-use Rattle.salvaging.specs.Steps.{carriage_return, blank, plain?, without_returns, trimmed, digit_next?, unpadded_from, unpadded}
+use Rattle.salvaging.specs.Steps.{carriage_return, blank, plain?, without_returns, trimmed, unpadded_from, unpadded}
 use Rattle.salvaging.specs.Fixes.{changed}
 use Rattle.salvaging.proofs.Changed.{shorter_changed, changed_cons, kept_length, unpadded_length}
 use Rattle.mending.specs.declared.place.Place.{Place}
 use Rattle.mending.specs.declared.place.Place.TheVariants.{Key, Outside, Run, Zero}
-use Rattle.mending.specs.Place.{is_zero, broken, settled, begins, next, goes, holds}
+use Rattle.mending.specs.Place.{is_zero, broken, settled, begins, next, goes}
 use Rattle.mending.specs.Line.{byte_if}
 use Rattle.mending.proofs.Unpadding.{unpad, gone, stays, settled_suc}
 

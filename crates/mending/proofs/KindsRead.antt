@@ -3,20 +3,17 @@
 use mathlib.Core.Path.{◌≡◌, refl, sym, ap, ◌∙◌}
 use mathlib.Core.Bool.{Bool, true, false, not, ◌&&◌, ◌||◌, cond}
 use mathlib.Core.List.{List, [], ◌∷◌, ◌++◌, append-nil}
-use Prim.Native.Nat.{ℕ, zero, suc}
+use Prim.Native.Nat.{ℕ, suc}
 use lib.Dec.{eqb}
-use lib.ListN.{replicate}
 use borrow.Author.Tests.{eqb-true}
 use Rattle.format.specs.Bytes.{line_feed}
 use Rattle.schedule.proofs.Tests.{by_test}
-use Rattle.salvaging.specs.Lines as Lines
 use Rattle.salvaging.specs.Lines.{empty?}
 use Rattle.salvaging.specs.Steps.{carriage_return, blank, without_returns, trimmed, unpadded}
 use Rattle.salvaging.specs.Fixes.{changed, fix, fix_if, fixes_kept, fixes_of_line}
-use Rattle.mending.specs.declared.place.Place.{Place}
 use Rattle.mending.specs.declared.place.Place.TheVariants.{Key}
 use Rattle.mending.specs.declared.line.Line.{Line}
-use Rattle.mending.specs.declared.line.Kinds.{Kinds}
+use Rattle.mending.specs.declared.fixes.Kinds.{Kinds}
 use Rattle.mending.specs.Place.{settled, next, goes}
 use Rattle.mending.specs.Line.{fresh, with_byte, returned, blanked, line_after, kinds_of, fixes_text}
 use Rattle.mending.proofs.TextRead.{waiting, cut_blank, cut_byte, blank_moves}

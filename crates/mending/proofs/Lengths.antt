@@ -1,54 +1,16 @@
--- How long what is added is, and what the lines of a list are made of.
+-- What the lines of a list are made of, and how long they are.
 use mathlib.Core.Path.{◌≡◌, refl, sym, ap, ◌∙◌}
 use mathlib.Core.Bool.{Bool, true, false}
-use mathlib.Core.List.{List, [], ◌∷◌, ◌++◌, append_assoc}
-use Prim.Native.Nat.{ℕ, zero, suc, ◌+◌, ◌≤◌, ◌<◌}
+use mathlib.Core.List.{[], ◌∷◌, ◌++◌, append_assoc}
+use Prim.Native.Nat.{ℕ, ◌+◌, ◌<◌}
 use native.Mathlib.Omega.{arith}
-use lib.ListN.{length, replicate, length-append, length-replicate}
+use lib.ListN.{length, length-append}
 use Rattle.format.specs.Bytes.{bytes, comma, line_feed, digit_zero, decimal}
 use Rattle.format.proofs.Decimal.{decimal_one}
 use Rattle.writing.specs.Line.{pair}
-use Rattle.salvaging.specs.Steps.{blank}
 use Rattle.salvaging.specs.Fixes.{fix, fix_if}
-use Rattle.mending.specs.declared.line.Added.{Added}
-use Rattle.mending.specs.declared.line.Kinds.{Kinds}
-use Rattle.mending.specs.Line.{byte_if, added_text, length_if, fixes_text}
-
-if_most : (b : Bool) (n : ℕ) → length_if b n ≤ n
-if_most true n = omega arith
-if_most false n = omega arith
-
-pub within_if : (b : Bool) (n r : ℕ) → r ≡ length_if b n → r ≤ n
-within_if b n r e = omega (arith, e, if_most b n)
-
-byte_size : (b : Bool) (c : ℕ) → length (byte_if b c) ≡ length_if b 1
-byte_size true c = refl
-byte_size false c = refl
-
-pub blanks_size : (n : ℕ) → length (replicate n blank) ≡ n
-blanks_size n = length-replicate n blank
-
-pub at_most : (n m : ℕ) → length (replicate n blank) ≤ m → n ≤ m
-at_most n m h = omega (arith, blanks_size n, h)
-
-pub one_blank_more : (n : ℕ) → replicate (suc n) blank ≡ replicate n blank ++ (blank ∷ [])
-one_blank_more zero = refl
-one_blank_more (suc n) = ap (λ (l : List ℕ). blank ∷ l) (one_blank_more n)
-
-pub added_size : (x : Added) (a b : ℕ) → a ≡ length_if x.zero 1 → b ≡ length_if x.byte 1 → (c : ℕ) → a + x.blanks + b ≡ length (added_text x c)
-added_size x a b e f c =
-    let z = byte_if x.zero digit_zero in
-    let y = byte_if x.byte c in
-    omega (
-      arith,
-      e,
-      f,
-      byte_size x.zero digit_zero,
-      byte_size x.byte c,
-      blanks_size x.blanks,
-      length-append z (replicate x.blanks blank ++ y),
-      length-append (replicate x.blanks blank) y,
-    )
+use Rattle.mending.specs.declared.fixes.Kinds.{Kinds}
+use Rattle.mending.specs.Line.{length_if, fixes_text}
 
 -- a line of the list: `fix=`, and two numbers parted by a comma
 pub fix_is : (n k : ℕ) → bytes "fix=" ++ pair n k line_feed ≡ fix n k

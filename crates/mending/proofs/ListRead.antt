@@ -5,7 +5,7 @@ use mathlib.Core.List.{List, [], ◌∷◌, ◌++◌, append-nil}
 use Prim.Native.Nat.{ℕ, suc}
 use native.Mathlib.Omega.{arith}
 use lib.Dec.{eqb}
-use borrow.Author.Tests.{eqb-true, ne_eqb}
+use borrow.Author.Tests.{ne_eqb}
 use Rattle.format.specs.Bytes.{line_feed}
 use Rattle.schedule.proofs.Tests.{by_test}
 use Rattle.salvaging.specs.Lines as Lines

@@ -1,6 +1,6 @@
 -- What the code adds to the text, byte by byte, is the text that the rules leave. Shown at the end: `text_is`.
 use mathlib.Core.Path.{◌≡◌, refl, sym, ap, ◌∙◌}
-use mathlib.Core.Bool.{Bool, true, false, not, ◌&&◌, cond}
+use mathlib.Core.Bool.{true, false, not, ◌&&◌, cond}
 use mathlib.Core.List.{List, [], ◌∷◌, ◌++◌, append_assoc, append-nil}
 use Prim.Native.Nat.{ℕ, zero, suc}
 use lib.Dec.{eqb}
@@ -12,10 +12,9 @@ use Rattle.schedule.proofs.Tests.{by_test}
 use Rattle.salvaging.specs.Lines as Lines
 use Rattle.salvaging.specs.Lines.{lines_of, empty?}
 use Rattle.salvaging.specs.Steps.{carriage_return, blank, without_returns, trimmed, unpadded, mended, left_of, salvaged}
-use Rattle.mending.specs.declared.place.Place.{Place}
 use Rattle.mending.specs.declared.line.Line.{Line}
 use Rattle.mending.specs.Place.{is_zero, settled, next, goes, holds}
-use Rattle.mending.specs.Line.{fresh, with_byte, returned, blanked, line_after, ended, added_kept, added, byte_if, added_text, text_from}
+use Rattle.mending.specs.Line.{fresh, with_byte, blanked, line_after, ended, added_kept, added, byte_if, added_text, text_from}
 use Rattle.mending.proofs.Unpadding.{unpad, unpad_nil, unpad_blanks}
 
 -- what is left of a line after kinds 1 and 2

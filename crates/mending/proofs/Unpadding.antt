@@ -1,7 +1,7 @@
 -- Zeros that go, byte by byte: from each place the rules' step is what the byte adds, and the step from the next place. Shown at the end:
 -- `unpad_blanks`.
 use mathlib.Core.Path.{◌≡◌, refl, sym, ap, ◌∙◌}
-use mathlib.Core.Bool.{Bool, true, false, not, ◌&&◌, cond}
+use mathlib.Core.Bool.{Bool, true, false, not, ◌&&◌}
 use mathlib.Core.List.{List, [], ◌∷◌, ◌++◌}
 use Prim.Native.Nat.{ℕ, zero, suc}
 use lib.Dec.{eqb}
@@ -13,7 +13,7 @@ use Rattle.schedule.proofs.Tests.{by_test}
 use Rattle.salvaging.specs.Steps.{blank, unpadded_from, unpadded}
 use Rattle.mending.specs.declared.place.Place.{Place}
 use Rattle.mending.specs.declared.place.Place.TheVariants.{Key, Outside, Run, Zero}
-use Rattle.mending.specs.Place.{is_zero, opens, broken, settled, begins, next, goes, holds}
+use Rattle.mending.specs.Place.{is_zero, broken, settled, next, goes, holds}
 use Rattle.mending.specs.Line.{byte_if}
 
 -- what the rules' step leaves of the rest of a line

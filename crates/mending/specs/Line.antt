@@ -6,8 +6,8 @@ use Rattle.salvaging.specs.Steps.{carriage_return, blank}
 use Rattle.salvaging.specs.Fixes.{fix_if}
 use Rattle.mending.specs.declared.place.Place.TheVariants.{Key}
 use Rattle.mending.specs.declared.line.Line.{Line}
-use Rattle.mending.specs.declared.line.Added.{Added}
-use Rattle.mending.specs.declared.line.Kinds.{Kinds}
+use Rattle.mending.specs.declared.text.Added.{Added}
+use Rattle.mending.specs.declared.fixes.Kinds.{Kinds}
 use Rattle.mending.specs.Place.{is_zero, settled, next, goes, holds}
 
 abbrev pub fresh : Line

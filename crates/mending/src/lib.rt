@@ -7,9 +7,7 @@ mod line;
 mod place;
 mod text;
 
-pub use fixes::{fixes_length, put_fixes};
-pub use line::{
-    Added, Kinds, Line, adds, ended, fresh, kinds_at, kinds_last, line_after, number_after,
-};
+pub use fixes::Kinds;
+pub use line::{Line, number_after};
 pub use place::Place;
-pub use text::{added_length, put_added};
+pub use text::Added;

@@ -1,7 +1,5 @@
--- A multiple in the form of the code's enum.
-use Rattle.std.specs.Prelude.{cond, ℕ, leb}
-use Rattle.numbers.specs.declared.multiples.Multiple.{Multiple}
-use Rattle.numbers.specs.declared.multiples.Multiple.TheVariants.{Within, Past}
+-- A multiple that is at most a bound, or none.
+use Rattle.std.specs.Prelude.{cond, Option, Some, None, ℕ, leb}
 
-abbrev pub multiple_within : ℕ → ℕ → Multiple
-multiple_within most m = cond (leb m most) (Within m) Past
+abbrev pub multiple_within : ℕ → ℕ → Option ℕ
+multiple_within most m = cond (leb m most) (Some m) None

@@ -6,10 +6,11 @@
 
 ghost use Rattle.std.specs.Prelude.{◌≤◌, ◌<◌, length};
 ghost use Rattle.schedule.specs.Limits as Limits;
+ghost use Rattle.asking.specs.Questions.{longest_word};
 
-use asking::{Asked, Instant, Lengths, Passed, Question, WORD_ROOM};
+use asking::{Account, Asked, Fault, Lengths, Passed, Question, WORD_ROOM};
 use format::Refusal;
-use inputs::{Input, PIECE, Reading, Taken, after_read, read_input, take_tables};
+use inputs::{Lack, PIECE, after_read, read_input, take_tables};
 use marginlines::MARGIN_BYTES;
 use marginprints::put_margin_to;
 use printing::{SLOT, SLOTS, put_answer_to, put_batch};
@@ -26,14 +27,6 @@ const TEXT_ROOM: usize = Table::TABLE_BYTES_TO as usize;
 
 // Each turn reads a byte or more, and Linux allows some 6 million bytes of arguments: the turns do not run out.
 const TURNS: u32 = 0xffff_ffff;
-
-// One piece more of the command line.
-#[derive(Clone, Copy)]
-enum Line {
-    More(Passed),
-    Ended,
-    Failed,
-}
 
 // The room for an argument, and for a text to print, but for those of salvage and of margins: a path's length, which none of them passes.
 const ROOM: usize = 4096;
@@ -73,13 +66,12 @@ fn put_error(error: io::Error, room: &mut [u8]) -> usize
 
 // The system's word for an error, without the number that the library puts behind it.
 fn worded(text: &str) -> &str {
-    match text.rsplit_once(" (os error ") {
-        Some((word, _)) => word,
-        None => text,
-    }
+    text.rsplit_once(" (os error ")
+        .map_or(text, |(word, _)| word)
 }
 
-// A line on standard error: what failed, and why.
+// A line on standard error: what failed, and why. It is told where it comes, and not handed on to `main`: what failed may be a file of any name,
+// and no name need be text.
 fn fail(rt: HostRuntime, what: &[u8], error: io::Error) {
     let mut room = [0u8; ERROR_ROOM];
     let n = put_error(error, &mut room);
@@ -101,50 +93,28 @@ fn print(rt: HostRuntime, bytes: &[u8]) {
     }
 }
 
-fn read_piece(file: &mut File, p: Passed) -> Line {
+// One piece more of the command line, where it has not ended.
+fn read_piece(file: &mut File, passed: Passed) -> io::Result<Option<Passed>> {
     let mut piece = [0u8; PIECE];
     let got = file.read(&mut piece);
-    let reading = after_read(got, &piece);
-    match reading {
-        Reading::More(n) => Line::More(asking::passed_by(p, &piece[..n])),
-        Reading::Ended => Line::Ended,
-        Reading::Failed(_) => Line::Failed,
-    }
+    Ok(after_read(got, &piece)?.map(|n| asking::passed_by(passed, &piece[..n])))
 }
 
 // The instant that argument i spells, from the whole command line.
-fn instant_from(file: &mut File, i: usize) -> Instant {
-    let mut p = Passed::Before(i);
-    let mut turns = TURNS;
-    while turns > 0 {
-        match read_piece(&mut *file, p) {
-            Line::More(q) => {
-                p = q;
-                turns -= 1;
-            }
-            Line::Ended => {
-                return asking::instant_told(p);
-            }
-            Line::Failed => {
-                return Instant::Unread;
-            }
+fn long_instant(rt: HostRuntime, i: usize) -> Result<u32, Fault> {
+    let mut file = File::open(&rt, COMMAND_LINE)?;
+    let mut passed = Passed::Before(i);
+    for _ in 0..TURNS {
+        match read_piece(&mut file, passed)? {
+            Some(more) => passed = more,
+            None => return asking::instant_told(passed),
         }
     }
-    Instant::Unread
-}
-
-fn long_instant(rt: HostRuntime, i: usize) -> Instant {
-    match File::open(&rt, COMMAND_LINE) {
-        Ok(opened) => {
-            let mut file = opened;
-            instant_from(&mut file, i)
-        }
-        Err(_) => Instant::Unread,
-    }
+    Err(Fault::Unread)
 }
 
 // An argument that fits a room is copied there; a longer one is read in pieces. One that is missing spells what an empty one does.
-fn instant_asked(rt: HostRuntime, i: usize) -> Instant {
+fn instant_asked(rt: HostRuntime, i: usize) -> Result<u32, Fault> {
     let mut room = [0u8; ROOM];
     match rt.arg(i, &mut room) {
         Ok(n) => asking::instant_of(&room[..n]),
@@ -153,14 +123,12 @@ fn instant_asked(rt: HostRuntime, i: usize) -> Instant {
     }
 }
 
-// The length of a word that is put into a room: 0 where it is missing or longer than the room.
-fn word_asked(rt: HostRuntime, i: usize, room: &mut [u8]) -> usize
-    ensures { result ≤ length room.new }
+// A word that is put into a room: nothing, where it is missing or longer than the room. A room too short for a word of the program is refused.
+fn word_asked(rt: HostRuntime, i: usize, room: &mut [u8]) -> &[u8]
+    requires { longest_word ≤ length room.old }
 {
-    match rt.arg(i, &mut *room) {
-        Ok(n) => n,
-        Err(_) => 0,
-    }
+    let n = rt.arg(i, &mut *room).unwrap_or(0);
+    &room[..n]
 }
 
 // How many arguments there are, the program's own name among them.
@@ -177,30 +145,31 @@ fn argument_count(rt: HostRuntime) -> usize {
 // The lengths that the arguments from 2 on spell.
 fn lengths_asked(rt: HostRuntime, count: usize) -> Lengths {
     let mut lengths = asking::no_lengths();
-    let mut i: usize = 2;
-    while i < count {
+    for i in 2..count {
         lengths = asking::lengths_on(lengths, instant_asked(rt, i));
-        i += 1;
     }
     lengths
 }
 
-fn question_asked(rt: HostRuntime, count: usize, lengths: Lengths) -> Asked {
+fn question_asked(rt: HostRuntime, count: usize, lengths: Lengths) -> Result<Asked, Fault> {
     let mut room = [0u8; WORD_ROOM];
-    let mut second = [0u8; WORD_ROOM];
-    let n = word_asked(rt, 1, &mut room);
-    let instant = instant_asked(rt, 2);
-    let m = word_asked(rt, 2, &mut second);
-    let later = instant_asked(rt, 3);
-    asking::question_of(count, &room, n, instant, &second, m, later, lengths)
+    let mut second_room = [0u8; WORD_ROOM];
+    asking::question_of(&Account {
+        count,
+        word: word_asked(rt, 1, &mut room),
+        second: word_asked(rt, 2, &mut second_room),
+        instant: instant_asked(rt, 2),
+        later: instant_asked(rt, 3),
+        lengths,
+    })
 }
 
 fn answer(rt: HostRuntime, q: Question) {
     let mut room = [0u8; SLOT];
     let mut text = [0u8; ROOM];
     match read_input(&mut rt.stdin(), &mut room) {
-        Input::Failed(e) => fail(rt, b"standard input", e),
-        Input::Bytes(n) => {
+        Err(e) => fail(rt, b"standard input", e),
+        Ok(n) => {
             let m = put_answer_to(q, &room, n, &mut text);
             print(rt, &text[..m]);
         }
@@ -214,8 +183,8 @@ fn print_output(rt: HostRuntime, o: Output) {
     let mut text = [0u8; TEXT_ROOM];
     let mut list = [0u8; LIST_BYTES];
     match read_input(&mut rt.stdin(), &mut room) {
-        Input::Failed(e) => fail(rt, b"standard input", e),
-        Input::Bytes(n) => match o {
+        Err(e) => fail(rt, b"standard input", e),
+        Ok(n) => match o {
             Output::Text => {
                 let m = put_left_to(&room, n, &mut text, &mut list);
                 print(rt, &text[..m]);
@@ -242,12 +211,11 @@ fn print_margin(rt: HostRuntime, limits: &[u8], m: usize)
     let mut room = [0u8; SLOT];
     let mut text = [0u8; MARGIN_BYTES];
     match read_input(&mut rt.stdin(), &mut room) {
-        Input::Failed(e) => fail(rt, b"standard input", e),
-        Input::Bytes(n) => {
+        Err(e) => fail(rt, b"standard input", e),
+        Ok(n) => {
             let printed = put_margin_to(&room, n, limits, m, &mut text);
             tell_text(rt, printed.in_limits);
-            let k = printed.length;
-            print(rt, &text[..k]);
+            print(rt, &text[..printed.length]);
         }
     }
 }
@@ -287,12 +255,11 @@ fn limits_opened(rt: HostRuntime) -> Option<File> {
 
 // Where the limits cannot be read, that is told and nothing is printed.
 fn answer_margin(rt: HostRuntime) {
-    if let Some(opened) = limits_opened(rt) {
-        let mut file = opened;
+    if let Some(mut file) = limits_opened(rt) {
         let mut limits = [0u8; LIMITS_ROOM];
         match read_input(&mut file, &mut limits) {
-            Input::Failed(e) => fail(rt, b"the limits", e),
-            Input::Bytes(m) => print_margin(rt, &limits, m),
+            Err(e) => fail(rt, b"the limits", e),
+            Ok(m) => print_margin(rt, &limits, m),
         }
     }
 }
@@ -311,26 +278,22 @@ fn answer_tables(rt: HostRuntime, lengths: &[usize])
     let mut room = [0u8; SLOTS];
     let mut text = [0u8; ROOM];
     match take_tables(&mut rt.stdin(), lengths, &mut room) {
-        Taken::Whole => {
+        Ok(()) => {
             let n = put_batch(lengths, &room, &mut text);
             print(rt, &text[..n]);
         }
-        Taken::Wrong => print_refusal(rt, Refusal::WrongLengths),
-        Taken::Failed(e) => fail(rt, b"standard input", e),
+        Err(Lack::Wrong) => print_refusal(rt, Refusal::WrongLengths),
+        Err(Lack::Failed(e)) => fail(rt, b"standard input", e),
     }
 }
 
 // No tables at all, and more than the limit, are refused before the input is read.
 fn answer_batch(rt: HostRuntime, lengths: Lengths) {
     let count = lengths.count;
-    let list = lengths.list;
-    if count < Table::TABLES_FROM as usize {
+    if count < Table::TABLES_FROM as usize || Table::TABLES < count {
         return print_refusal(rt, Refusal::WrongLengths);
     }
-    if Table::TABLES < count {
-        return print_refusal(rt, Refusal::WrongLengths);
-    }
-    answer_tables(rt, &list[..count])
+    answer_tables(rt, &lengths.list[..count])
 }
 
 // Why a long argument could not be read: the file is asked for once more. Where it opens this time, it had no end of that argument.
@@ -346,12 +309,12 @@ fn main(rt: HostRuntime) {
     let count = argument_count(rt);
     let lengths = lengths_asked(rt, count);
     match question_asked(rt, count, lengths) {
-        Asked::Answer(q) => answer(rt, q),
-        Asked::Batch => answer_batch(rt, lengths),
-        Asked::Salvage => print_output(rt, Output::Text),
-        Asked::Fixes => print_output(rt, Output::Fixes),
-        Asked::Margin => answer_margin(rt),
-        Asked::Usage => print_usage(rt),
-        Asked::Unread => tell_unread(rt),
+        Ok(Asked::Answer(q)) => answer(rt, q),
+        Ok(Asked::Batch) => answer_batch(rt, lengths),
+        Ok(Asked::Salvage) => print_output(rt, Output::Text),
+        Ok(Asked::Fixes) => print_output(rt, Output::Fixes),
+        Ok(Asked::Margin) => answer_margin(rt),
+        Err(Fault::Misspelled) => print_usage(rt),
+        Err(Fault::Unread) => tell_unread(rt),
     }
 }

@@ -12,11 +12,11 @@ pub fn phalandrix_plain_report(table: &[u8], buffer: &mut [u8]) -> PhalandrixAns
     ensures call { Told result buffer.new (call_of buffer.old (report_of table.now)) }
     ensures least_true { result.number ≡ 0 → TrueReport table.now }
 {
-    sheet::told(plain_report(table, buffer))
+    PhalandrixAnswer::from(plain_report(table, buffer))
 }
 
 pub fn phalandrix_plain_row(table: &[u8], instant: u64, buffer: &mut [u8]) -> PhalandrixRowAnswer
     ensures { ToldRow result buffer.new (call_of buffer.old (row_of table.now instant)) (row_ticks_of table.now instant) }
 {
-    sheet::told_row(plain_row(table, instant, buffer))
+    PhalandrixRowAnswer::from(plain_row(table, instant, buffer))
 }

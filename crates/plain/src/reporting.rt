@@ -6,32 +6,21 @@ ghost use Rattle.rules.specs.AnswerNumbers.{answer_number};
 ghost use Rattle.rules.specs.Demands.{TrueReport};
 ghost use Rattle.sheet.specs.Figures.{figures_of};
 ghost use Rattle.sheet.specs.Calls.{called};
-ghost use Rattle.plainlaws.specs.Walks.{stop_of};
+ghost use Rattle.sheet.specs.Walks.{stop_of};
 
 use crate::walks::walked;
-use admission::Verdict;
-use format::Refusal;
-use ledger::{How, Walk};
+use ledger::Ledger;
 use rules::Answer;
 use table::Table;
+use window::Walk;
 
-pub fn report_walk(table: Table, w: Walk, buffer: &mut [u8]) -> Answer
+pub fn report_walk(table: Table, w: Walk<Ledger>, buffer: &mut [u8]) -> Answer
     requires { table.graphs ≤ (Limits.graphs).to }
-    ensures { called result buffer.new ≡ call_of buffer.old (report_on (stop_of w.how) w.ticks (take table.graphs (figures_of table w.ledger.worst))) }
+    ensures { called result buffer.new ≡ call_of buffer.old (report_on (stop_of w.how) w.ticks (take table.graphs (figures_of table w.state.worst))) }
 {
-    let how = w.how;
-    match how {
-        How::Settled(k) => {
-            let l = w.ledger;
-            let worst = l.worst;
-            let graph = table.graph;
-            let figures = sheet::figures_of(graph, worst);
-            sheet::put_settled(buffer, k, w.ticks, figures, table.graphs)
-        }
-        How::Backlog => Answer::Refused(Refusal::Backlog),
-        How::Unsettled => Answer::Refused(Refusal::Unsettled),
-        How::Reached => Answer::Refused(Refusal::Unsettled),
-    }
+    let round = sheet::round_of(w.how)?;
+    let figures = sheet::figures_of(table.graph, w.state.worst);
+    sheet::put_settled(buffer, round, w.ticks, &figures[..table.graphs])
 }
 
 // The report of a table, by the plain engine: what it promises is what `report` does.
@@ -39,10 +28,6 @@ pub fn plain_report(table: &[u8], buffer: &mut [u8]) -> Answer
     ensures call { called result buffer.new ≡ call_of buffer.old (report_of table.now) }
     ensures least_true { answer_number result ≡ 0 → TrueReport table.now }
 {
-    let a = admission::admit(table);
-    let verdict = a.verdict;
-    match verdict {
-        Verdict::Refused(r) => Answer::Refused(r),
-        Verdict::Passed => report_walk(a.table, walked(a, u32::MAX), buffer),
-    }
+    let a = admission::admit(table)?;
+    report_walk(a.table, walked(a, u32::MAX), buffer)
 }

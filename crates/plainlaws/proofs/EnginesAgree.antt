@@ -8,7 +8,7 @@ use Rattle.schedule.specs.Table.{Table, hyperperiod}
 use Rattle.rules.specs.Admission.{Admission, admitted, refused, admission_of}
 use Rattle.rules.specs.Answers.{Reply, refuses, report_on}
 use Rattle.reading.specs.Memory.{memory_of}
-use Rattle.admission.specs.Admission.{coded_admission}
+use Rattle.sheet.specs.Walks.{admitted_of}
 use Rattle.looking.specs.declared.Look.{Look}
 use Rattle.looking.specs.Looking.{reply_within, ticks_at}
 use Rattle.sheet.specs.Figures.{figures_of}
@@ -27,21 +27,21 @@ use Rattle.plainlaws.proofs.TableLooks as PlainLooks
 abbrev first_report : Admission → Reply
 first_report (refused f) = refuses f
 first_report (admitted U) =
-    report_on (FirstWalks.stop_of (FirstWalks.walk_of_table (coded_admission (admitted U)) never).how) (FirstWalks.walk_of_table (coded_admission (admitted U)) never).ticks
-    (take (memory_of U).graphs (figures_of (memory_of U) (FirstWalks.walk_of_table (coded_admission (admitted U)) never).state.worst))
+    report_on (FirstWalks.stop_of (FirstWalks.walk_of_table (admitted_of U) never).how) (FirstWalks.walk_of_table (admitted_of U) never).ticks
+    (take (memory_of U).graphs (figures_of (memory_of U) (FirstWalks.walk_of_table (admitted_of U) never).state.worst))
 
 abbrev plain_report : Admission → Reply
 plain_report (refused f) = refuses f
 plain_report (admitted U) =
-    report_on (PlainWalks.stop_of (PlainWalks.walk_of_table (coded_admission (admitted U)) never).how) (PlainWalks.walk_of_table (coded_admission (admitted U)) never).ticks
-    (take (memory_of U).graphs (figures_of (memory_of U) (PlainWalks.walk_of_table (coded_admission (admitted U)) never).ledger.worst))
+    report_on (FirstWalks.stop_of (PlainWalks.walk_of_table (admitted_of U) never).how) (PlainWalks.walk_of_table (admitted_of U) never).ticks
+    (take (memory_of U).graphs (figures_of (memory_of U) (PlainWalks.walk_of_table (admitted_of U) never).state.worst))
 
 -- what each one's walk to an instant shows
 abbrev first_look : Table → ℕ → Look
-first_look U = FirstRows.look_of (FirstWalks.planned_of (coded_admission (admitted U)))
+first_look U = FirstRows.look_of (FirstWalks.planned_of (admitted_of U))
 
 abbrev plain_look : Table → ℕ → Look
-plain_look U = PlainRows.look_of (coded_admission (admitted U))
+plain_look U = PlainRows.look_of (admitted_of U)
 
 -- and the row that is answered, with the ticks walked for it
 abbrev row_by : (Table → ℕ → Look) → ℕ → Admission → Reply

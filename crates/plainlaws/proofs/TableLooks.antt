@@ -12,9 +12,8 @@ use Rattle.schedule.specs.Walk.{Stop, settled, unsettled, backlog, boundary}
 use Rattle.schedule.specs.WellFormed.{well_formed}
 use Rattle.schedule.proofs.Tests.{either_way}
 use Rattle.theorems.proofs.FirstStop.{stops_in_time}
-use Rattle.rules.specs.Admission.{admitted}
 use Rattle.reading.specs.Memory.{memory_of}
-use Rattle.admission.specs.Admission.{coded_admission}
+use Rattle.sheet.specs.Walks.{admitted_of}
 use Rattle.admission.specs.declared.admitting.Admitted.{Admitted}
 use Rattle.window.specs.declared.Plan.{Plan}
 use Rattle.planning.specs.Plans.{plan_of}
@@ -25,10 +24,11 @@ use Rattle.looking.proofs.Looked.{end_of, stop, Looked}
 use Rattle.ledger.specs.Showing.{row_of}
 use Rattle.ledger.specs.declared.Ledger.{Ledger}
 use Rattle.ledger.proofs.RowLaws.{run_length, row_few}
-use Rattle.ledgerlaws.proofs.Ends.{how_of}
+use Rattle.window.proofs.Ends.{how_of}
 use Rattle.ledgerlaws.proofs.Shown.{row_shown}
 use Rattle.plainlaws.specs.Walks.{walk_of_table}
-use Rattle.plainlaws.specs.Rows.{end_by, look_at, look_of}
+use Rattle.looking.specs.Looking.{end_by}
+use Rattle.plainlaws.specs.Rows.{look_at, look_of}
 use Rattle.plainlaws.proofs.TableWalks.{table_laid, table_walked}
 
 end_of_lem : (s : Stop) → end_by (how_of s) ≡ end_of s
@@ -44,17 +44,17 @@ row_room plan offsets l = omega (arith, row_few plan offsets l, run_length plan 
 -- its text is written from no more entries than there can be processors
 pub look_few : (a : Admitted) (t : ℕ) (l : Look) → l ≡ look_of a t → l.row.count ≤ (Limits.processors).to
 unfolding look_of
-look_few a t l e = rw e (row_few (plan_of a.table) (offsets_of a.table) (walk_of_table a t).ledger)
+look_few a t l e = rw e (row_few (plan_of a.table) (offsets_of a.table) (walk_of_table a t).state)
 
 module _ (U : Table) (ok : T (well_formed U)) (short : hyperperiod U ≤ (Limits.hyperperiod).to) (t : ℕ) where
   abbrev X : Box
   X = box_of U
 
-  walk_looked : Looked X t (look_at (memory_of U) (walk_of_table (coded_admission (admitted U)) t))
+  walk_looked : Looked X t (look_at (memory_of U) (walk_of_table (admitted_of U) t))
   unfolding boundary
   walk_looked =
-      let w = walk_of_table (coded_admission (admitted U)) t in
-      let room = row_room (plan_of (memory_of U)) (offsets_of (memory_of U)) w.ledger in
+      let w = walk_of_table (admitted_of U) t in
+      let room = row_room (plan_of (memory_of U)) (offsets_of (memory_of U)) w.state in
       either_way (table_walked U ok short t)
       (λ s. record {
         reached = λ l. absurd (let x : ⊥ = omega (arith, s.0) in x);
@@ -66,13 +66,13 @@ module _ (U : Table) (ok : T (well_formed U)) (short : hyperperiod U ≤ (Limits
       (λ b. record {
         reached = λ l. rw b.1.how;
         shows = λ l.
-            row_shown X (plan_of (memory_of U)) (offsets_of (memory_of U)) (table_laid U ok short) t w.ledger b.1.released
+            row_shown X (plan_of (memory_of U)) (offsets_of (memory_of U)) (table_laid U ok short) t w.state b.1.released
             (omega (arith, stops_in_time X (whole X.servers), last_boundary U ok short));
         end = λ l. absurd (let x : ⊥ = omega (arith, b.0) in x);
         ticks = λ l. absurd (let x : ⊥ = omega (arith, b.0) in x);
         room = room;
       })
 
-  pub table_looked : Looked X t (look_of (coded_admission (admitted U)) t)
+  pub table_looked : Looked X t (look_of (admitted_of U) t)
   unfolding look_of
   table_looked = walk_looked

@@ -1,17 +1,28 @@
 // Rules 4 and 5: the ready server jobs, and their order.
-ghost use Rattle.std.specs.Prelude.{◌≡◌, ◌-◌, ◌≤◌, ◌<◌};
-ghost use Rattle.window.specs.Entries.{places};
+ghost use Rattle.std.specs.Prelude.{◌≡◌, ◌<◌};
+ghost use Rattle.window.specs.Entries.{places, nodes_of, level_at};
+ghost use Rattle.ledger.specs.Entries.{complete_at, released_at};
 ghost use Rattle.ledger.specs.Ranks as Mirror;
 
+use ledger::Ledger;
+use plainsteps::instant_after;
 use table::Table;
+use window::Plan;
 
 // Rule 4: the last ready server job of a server. Those after the complete ones are pending, and of these the first `level` are ready: the one
 // `level` places before is then complete, or does not exist.
 pub fn ready_to(complete: u32, released: u32, level: u8) -> u32
     ensures { result ≡ Mirror.ready_to complete released level }
 {
-    let most = numbers::further(complete, level as u32);
-    if released < most { released } else { most }
+    released.min(complete.saturating_add(u32::from(level)))
+}
+
+// That of the server at place i.
+pub fn last_ready(plan: &Plan, l: &Ledger, i: usize) -> u32
+    requires { i < places }
+    ensures { result ≡ Mirror.ready_to (complete_at l.now i) (released_at l.now i) (level_at plan.now i) }
+{
+    ready_to(l.complete[i], l.released[i], plan.level[i])
 }
 
 // Rule 5: whether a server job with deadline d stands before one with another deadline; `earlier` says that its server has the earlier place,
@@ -22,47 +33,37 @@ pub fn is_before(d: u64, deadline: u64, earlier: bool) -> bool
     if d == deadline { earlier } else { d < deadline }
 }
 
-// How many of one server's ready server jobs, those after number `from` up to `to`, stand before one with that deadline.
-pub fn before_in(offset: u32, period: u32, from: u32, to: u32, deadline: u64, earlier: bool) -> u32
-    ensures { result ≡ Mirror.before_by offset period from deadline earlier (to - from) }
+// How many ready server jobs of the server at place m stand before one of place i with that deadline.
+fn before_at(
+    plan: &Plan,
+    offsets: &[u32; Table::SERVERS],
+    l: &Ledger,
+    i: usize,
+    deadline: u64,
+    m: usize,
+) -> u32
+    requires { m < places }
+    ensures { result ≡ Mirror.before_at offsets.now plan.now.period plan.now.level l.now.complete l.now.released i deadline m }
 {
     let mut count: u32 = 0;
-    let mut k = from;
-    while k < to {
-        k += 1;
-        if is_before(
-            plainsteps::instant_after(offset, period, k),
-            deadline,
-            earlier,
-        ) {
-            count = numbers::further(count, 1);
+    for k in l.complete[m]..last_ready(plan, l, m) {
+        let d = instant_after(offsets[m], plan.period[m], k + 1);
+        if is_before(d, deadline, m < i) {
+            count = count.saturating_add(1);
         }
     }
     count
 }
 
 // How many ready server jobs stand before number k of the server at place i.
-pub fn rank<'a>(
-    offsets: &'a [u32; Table::SERVERS],
-    period: &'a [u32; Table::SERVERS],
-    level: &'a [u8; Table::SERVERS],
-    complete: &'a [u32; Table::SERVERS],
-    released: &'a [u32; Table::SERVERS],
-    n: usize,
-    i: usize,
-    k: u32,
-) -> u32
-    requires { (n ≤ places) × (i < places) }
-    ensures { result ≡ Mirror.rank offsets.now period.now level.now complete.now released.now n i k }
+pub fn rank(plan: &Plan, offsets: &[u32; Table::SERVERS], l: &Ledger, i: usize, k: u32) -> u32
+    requires { i < places }
+    ensures { result ≡ Mirror.rank offsets.now plan.now.period plan.now.level l.now.complete l.now.released (nodes_of plan.now) i k }
 {
-    let deadline = plainsteps::instant_after(offsets[i], period[i], k);
+    let deadline = instant_after(offsets[i], plan.period[i], k);
     let mut count: u32 = 0;
-    let mut m: usize = 0;
-    while m < n {
-        let to = ready_to(complete[m], released[m], level[m]);
-        let before = before_in(offsets[m], period[m], complete[m], to, deadline, m < i);
-        count = numbers::further(count, before);
-        m += 1;
+    for m in 0..plan.nodes.min(Table::SERVERS) {
+        count = count.saturating_add(before_at(plan, offsets, l, i, deadline, m));
     }
     count
 }

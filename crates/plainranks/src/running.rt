@@ -1,61 +1,40 @@
 // Rules 5 and 6: the first `processors` ready server jobs run, and each uses one tick of its budget.
-ghost use Rattle.std.specs.Prelude.{◌≡◌, ◌≤◌, ◌<◌};
-ghost use Rattle.window.specs.Entries.{places};
+ghost use Rattle.std.specs.Prelude.{◌≡◌, ◌<◌};
+ghost use Rattle.window.specs.Entries.{places, nodes_of};
 ghost use Rattle.ledger.specs.Ranks as Mirror;
 
-use crate::ranks::{rank, ready_to};
+use crate::ranks::{last_ready, rank};
 use ledger::Ledger;
+use plainsteps::slot;
 use table::Table;
 use window::Plan;
 
 // The ready server jobs of the server at place i, each in turn: one that runs has used a tick more than before, linked or not.
-pub fn run_server<'a>(
+pub fn run_server(
     used: &mut [u32; Ledger::SLOTS],
-    old: &'a [u32; Ledger::SLOTS],
-    offsets: &'a [u32; Table::SERVERS],
-    period: &'a [u32; Table::SERVERS],
-    level: &'a [u8; Table::SERVERS],
-    complete: &'a [u32; Table::SERVERS],
-    released: &'a [u32; Table::SERVERS],
-    n: usize,
-    p: usize,
+    plan: &Plan,
+    offsets: &[u32; Table::SERVERS],
+    l: &Ledger,
     i: usize,
 )
-    requires { (n ≤ places) × (i < places) }
-    ensures { used.new ≡ Mirror.run_server offsets.now period.now level.now complete.now released.now old.now n p i used.old }
+    requires { i < places }
+    ensures { used.new ≡ Mirror.run_server offsets.now plan.now.period plan.now.level l.now.complete l.now.released l.now.used (nodes_of plan.now) plan.now.processors i used.old }
 {
-    let to = ready_to(complete[i], released[i], level[i]);
-    let mut k = complete[i];
-    while k < to {
-        k += 1;
-        if (rank(offsets, period, level, complete, released, n, i, k) as usize) < p {
-            let s = plainsteps::slot(i, k);
-            used[s] = numbers::further(old[s], 1);
+    for k in l.complete[i]..last_ready(plan, l, i) {
+        if (rank(plan, offsets, l, i, k + 1) as usize) < plan.processors {
+            let s = slot(i, k + 1);
+            used[s] = l.used[s].saturating_add(1);
         }
     }
 }
 
 // The tick that starts now.
-pub fn run(plan: Plan, offsets: [u32; Table::SERVERS], l: Ledger) -> Ledger
-    ensures { result ≡ Mirror.run plan offsets l }
+pub fn run(plan: &Plan, offsets: &[u32; Table::SERVERS], l: &Ledger) -> Ledger
+    ensures { result ≡ Mirror.run plan.now offsets.now l.now }
 {
-    let n = numbers::smaller(plan.nodes, Table::SERVERS);
-    let mut next = l;
-    let mut i: usize = 0;
-    while i < n {
-        run_server(
-            &mut next.used,
-            &l.used,
-            &offsets,
-            &plan.period,
-            &plan.level,
-            &l.complete,
-            &l.released,
-            n,
-            plan.processors,
-            i,
-        );
-        i += 1;
+    let mut next = *l;
+    for i in 0..plan.nodes.min(Table::SERVERS) {
+        run_server(&mut next.used, plan, offsets, l, i);
     }
     next
 }

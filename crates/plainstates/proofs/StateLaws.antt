@@ -1,22 +1,19 @@
--- Forming and comparing: one entry more; one test after another; a test of each index below a number that another names.
-use mathlib.Core.Path.{◌≡◌, refl, sym, ap, ◌∙◌}
-use mathlib.Core.Bool.{Bool, true, false, not, ◌&&◌}
+-- Forming: one entry more, one place more. Comparing: one test after another.
+use mathlib.Core.Path.{◌≡◌, refl, ap, ◌∙◌}
+use mathlib.Core.Bool.{Bool, true, false, ◌&&◌}
 use mathlib.Core.List.{List}
-use Prim.Native.Nat.{ℕ, ◌+◌, ◌*◌, ◌-◌, ◌≤◌, ◌<◌, min}
+use Prim.Native.Nat.{ℕ, ◌+◌, ◌*◌, ◌-◌, ◌≤◌}
 use native.Mathlib.Numerals.{add-one}
 use native.Mathlib.Omega.{arith}
-use lib.Dec.{eqb}
 use lib.ListN.{get_or, set}
-use borrow.Author.Tests.{not-true, not-false}
-use Rattle.window.specs.Loops.{all_below, replaced}
-use Rattle.window.proofs.LoopLaws.{all_missed}
+use Rattle.window.specs.Loops.{replaced}
 use Rattle.window.specs.declared.Plan.{Plan}
 use Rattle.window.specs.Entries.{budget_at, period_at, nodes_of}
 use Rattle.ledger.specs.declared.Ledger.{Ledger}
 use Rattle.ledger.specs.declared.Formed.{Formed}
 use Rattle.ledger.specs.Entries.{room, slot_at, offset_at, released_at, complete_at, linked_at, finished_at}
 use Rattle.ledger.specs.Loops.{changed, blocks}
-use Rattle.ledger.specs.Forming.{phase_of, behind_of, job_at, left_by, behind_by, blank_state, count_at, form_to, form}
+use Rattle.ledger.specs.Forming.{phase_of, behind_of, job_at, left_by, behind_by, blank_state, count_at, shown, form_to, form}
 
 -- one entry more
 module _ (used : List ℕ) (i complete budget : ℕ) (left : List ℕ) where
@@ -39,34 +36,16 @@ module _ (link : List ℕ) (i complete : ℕ) (behind : List ℕ) where
   unfolding changed
   behind_more d ue ke se ee xe = rw (add-one d, xe, ee, se, ke, ue)
 
--- the loop's end
-pub all_written : (f : ℕ → List ℕ) (most n d : ℕ) {u : List ℕ} → most ≡ n → u ≡ f d → d ≤ most → most ≤ d → u ≡ f n
-all_written f most n d e g h l = let z : d ≡ n = omega arith in g ∙ ap f z
-
--- one test after another: the first that fails decides
-pub fails_here : (a b : Bool) (r : Bool) → r ≡ a → not r ≡ true → false ≡ (a && b)
-fails_here a b r e h = rw (← e, not-true r h)
-
-pub passes_here : (a b : Bool) (r : Bool) {x : Bool} → r ≡ a → not r ≡ false → x ≡ b → x ≡ (a && b)
-passes_here a b r e h f = rw (← e, not-false r h) f
-
-module _ (p : ℕ → Bool) (most : ℕ) {n : ℕ} (e : most ≡ n) where
-  pub one_differs : (i : ℕ) → i < most → p i ≡ false → false ≡ all_below p n
-  one_differs i h f = rw e at (all_missed p most i h f)
-
-  pub each_same : (i : ℕ) → true ≡ all_below p i → i ≤ most → most ≤ i → true ≡ all_below p n
-  each_same i t h l = let g : i ≡ n = omega arith in rw g at t
-
 -- one place more of the state, and all of them
 module _ (plan : Plan) (offsets : List ℕ) (l : Ledger) (t : ℕ) where
   pub form_start : {f : Formed} → f ≡ blank_state → f ≡ form_to plan offsets l t 0
   unfolding replaced blocks
   form_start e = e
 
-  pub form_more : (i : ℕ) {f : Formed} {ph uf ul count budget : ℕ} {left behind : List ℕ} → f ≡ form_to plan offsets l t i
+  pub form_more : (i : ℕ) {f : Formed} {ph uf ul count : ℕ} {left behind : List ℕ} → f ≡ form_to plan offsets l t i
       → ph ≡ phase_of t (offset_at offsets i) (period_at plan i) → uf ≡ released_at l i - finished_at l i → ul ≡ released_at l i - linked_at l i
-      → count ≡ count_at plan offsets l t i → budget ≡ budget_at plan i
-      → left ≡ left_by l.used i (complete_at l i) budget f.left (min count room) → behind ≡ behind_by l.link i (complete_at l i) f.behind (min count room)
+      → count ≡ count_at plan offsets l t i → left ≡ left_by l.used i (complete_at l i) (budget_at plan i) f.left (shown plan offsets l t i)
+      → behind ≡ behind_by l.link i (complete_at l i) f.behind (shown plan offsets l t i)
       → ◌≡◌ {A = Formed}
       (record {
         phase = set f.phase i ph;
@@ -78,8 +57,15 @@ module _ (plan : Plan) (offsets : List ℕ) (l : Ledger) (t : ℕ) where
       })
       (form_to plan offsets l t (i + 1))
   unfolding replaced blocks
-  form_more i fe phe ufe ule ce be le he = rw (add-one i, he, le, be, ce, ule, ufe, phe, fe)
+  form_more i fe phe ufe ule ce le he = rw (add-one i, he, le, ce, ule, ufe, phe, fe)
 
   pub form_all : (n i : ℕ) {f : Formed} → n ≡ nodes_of plan → f ≡ form_to plan offsets l t i → i ≤ n → n ≤ i → f ≡ form plan offsets l t
   unfolding form
   form_all n i e fe h g = let z : i ≡ nodes_of plan = omega arith in fe ∙ ap (form_to plan offsets l t) z
+
+-- one test after another, as far as they are made: the first, r, passes or fails
+pub and_then : {a r : Bool} (b : Bool) {v : Bool} → r ≡ a → r ≡ true → v ≡ b → v ≡ (a && b)
+and_then b e f g = rw (← e, f) g
+
+pub and_else : {a r : Bool} (b : Bool) {v : Bool} → r ≡ a → r ≡ false → v ≡ r → v ≡ (a && b)
+and_else b e f g = rw (← e, f) (g ∙ f)

@@ -1,10 +1,11 @@
 // The state, entry by entry.
-ghost use Rattle.std.specs.Prelude.{◌≡◌, ◌+◌, ◌*◌, ◌<◌, min};
-ghost use Rattle.window.specs.Entries.{places};
-ghost use Rattle.ledger.specs.Entries.{room, slots};
+ghost use Rattle.std.specs.Prelude.{◌≡◌, ◌+◌, ◌*◌, ◌<◌};
+ghost use Rattle.window.specs.Entries.{places, budget_at};
+ghost use Rattle.ledger.specs.Entries.{room, slots, complete_at};
 ghost use Rattle.ledger.specs.Forming as Mirror;
 
 use ledger::{Formed, Ledger};
+use plainsteps::slot;
 use table::Table;
 use window::Plan;
 
@@ -15,7 +16,7 @@ pub fn phase_of(t: u32, offset: u32, period: u32) -> u32
     if period == 0 {
         0
     } else {
-        plainsteps::less(t, offset) % period
+        t.saturating_sub(offset) % period
     }
 }
 
@@ -26,7 +27,7 @@ pub fn behind_of(k: u32, j: u32) -> u32
     if j == 0 {
         0
     } else {
-        numbers::further(plainsteps::less(k, j), 1)
+        k.saturating_sub(j).saturating_add(1)
     }
 }
 
@@ -43,51 +44,48 @@ pub fn number(complete: u32, d: usize) -> u32
     requires { d < room }
     ensures { result ≡ Mirror.job_at complete d }
 {
-    numbers::further(complete, d as u32 + 1)
+    complete.saturating_add(d as u32 + 1)
 }
 
-// The budget left of each of `count` pending server jobs at place i, in order.
-pub fn form_left(
-    left: &mut [u32; Ledger::SLOTS],
-    used: &[u32; Ledger::SLOTS],
-    i: usize,
-    complete: u32,
-    count: u32,
-    budget: u32,
-)
+// How many pending server jobs there are at place i.
+fn pending(l: &Ledger, i: usize) -> u32
     requires { i < places }
-    ensures { left.new ≡ Mirror.left_by used.now i complete budget left.old (min count room) }
+    ensures { result ≡ Mirror.pending_of l.now i }
 {
-    let most = numbers::smaller(count as usize, Ledger::ROOM);
-    let mut d: usize = 0;
-    while d < most {
-        let k = number(complete, d);
-        let s = plainsteps::slot(i, k);
+    l.released[i].saturating_sub(l.complete[i])
+}
+
+// How many of them the state has room for: one more than are allowed.
+fn shown(l: &Ledger, i: usize) -> usize
+    requires { i < places }
+    ensures { result ≡ Mirror.shown_of l.now i }
+{
+    (pending(l, i) as usize).min(Ledger::ROOM)
+}
+
+// The budget left of each pending server job at place i, in order.
+pub fn form_left(left: &mut [u32; Ledger::SLOTS], plan: &Plan, l: &Ledger, i: usize)
+    requires { i < places }
+    ensures { left.new ≡ Mirror.left_by l.now.used i (complete_at l.now i) (budget_at plan.now i) left.old (Mirror.shown_of l.now i) }
+{
+    let budget = u32::from(plan.budget[i]);
+    for d in 0..shown(l, i) {
+        let s = slot(i, number(l.complete[i], d));
         let e = entry(i, d);
-        left[e] = plainsteps::less(budget, used[s]);
-        d += 1;
+        left[e] = budget.saturating_sub(l.used[s]);
     }
 }
 
 // By how many numbers the linked job of each lies behind it.
-pub fn form_behind(
-    behind: &mut [u32; Ledger::SLOTS],
-    link: &[u32; Ledger::SLOTS],
-    i: usize,
-    complete: u32,
-    count: u32,
-)
+pub fn form_behind(behind: &mut [u32; Ledger::SLOTS], l: &Ledger, i: usize)
     requires { i < places }
-    ensures { behind.new ≡ Mirror.behind_by link.now i complete behind.old (min count room) }
+    ensures { behind.new ≡ Mirror.behind_by l.now.link i (complete_at l.now i) behind.old (Mirror.shown_of l.now i) }
 {
-    let most = numbers::smaller(count as usize, Ledger::ROOM);
-    let mut d: usize = 0;
-    while d < most {
-        let k = number(complete, d);
-        let s = plainsteps::slot(i, k);
+    for d in 0..shown(l, i) {
+        let k = number(l.complete[i], d);
+        let s = slot(i, k);
         let e = entry(i, d);
-        behind[e] = behind_of(k, link[s]);
-        d += 1;
+        behind[e] = behind_of(k, l.link[s]);
     }
 }
 
@@ -96,33 +94,27 @@ pub fn blank_state() -> Formed
     ensures { result ≡ Mirror.blank_state }
 {
     Formed {
-        phase: [0u32; Table::SERVERS],
-        unfinished: [0u32; Table::SERVERS],
-        unlinked: [0u32; Table::SERVERS],
-        pending: [0u32; Table::SERVERS],
-        left: [0u32; Ledger::SLOTS],
-        behind: [0u32; Ledger::SLOTS],
+        phase: [0; Table::SERVERS],
+        unfinished: [0; Table::SERVERS],
+        unlinked: [0; Table::SERVERS],
+        pending: [0; Table::SERVERS],
+        left: [0; Ledger::SLOTS],
+        behind: [0; Ledger::SLOTS],
     }
 }
 
 // The state at t, before its releases.
-pub fn form(plan: Plan, offsets: [u32; Table::SERVERS], l: Ledger, t: u32) -> Formed
-    ensures { result ≡ Mirror.form plan offsets l t }
+pub fn form(plan: &Plan, offsets: &[u32; Table::SERVERS], l: &Ledger, t: u32) -> Formed
+    ensures { result ≡ Mirror.form plan.now offsets.now l.now t }
 {
-    let n = numbers::smaller(plan.nodes, Table::SERVERS);
     let mut f = blank_state();
-    let mut i: usize = 0;
-    while i < n {
-        let complete = l.complete[i];
-        let count = plainsteps::less(l.released[i], complete);
-        let budget = plainsteps::wide(plan.budget[i]);
+    for i in 0..plan.nodes.min(Table::SERVERS) {
         f.phase[i] = phase_of(t, offsets[i], plan.period[i]);
-        f.unfinished[i] = plainsteps::less(l.released[i], l.finished[i]);
-        f.unlinked[i] = plainsteps::less(l.released[i], l.linked[i]);
-        f.pending[i] = count;
-        form_left(&mut f.left, &l.used, i, complete, count, budget);
-        form_behind(&mut f.behind, &l.link, i, complete, count);
-        i += 1;
+        f.unfinished[i] = l.released[i].saturating_sub(l.finished[i]);
+        f.unlinked[i] = l.released[i].saturating_sub(l.linked[i]);
+        f.pending[i] = pending(l, i);
+        form_left(&mut f.left, plan, l, i);
+        form_behind(&mut f.behind, l, i);
     }
     f
 }

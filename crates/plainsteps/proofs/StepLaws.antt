@@ -1,9 +1,9 @@
--- An instant of the plain engine: sums that fit, a server's pending jobs one by one, and the predecessors of a mask.
+-- An instant of the plain engine: a server's pending jobs one by one, and the predecessors of a mask.
 use mathlib.Core.Path.{◌≡◌, refl, sym, ap, ◌∙◌}
 use mathlib.Core.Bool.{Bool, true, false, ◌&&◌, ◌||◌, not, or-true}
 use mathlib.Core.List.{List}
-use Prim.Native.Nat.{ℕ, suc, ◌+◌, ◌*◌, ◌-◌, ◌^◌, ◌≤◌, ◌<◌}
-use native.Mathlib.Nat.{mul-le-mul_left}
+use Rattle.std.specs.Prelude.{Option, unwrap_or}
+use Prim.Native.Nat.{ℕ, suc, ◌+◌, ◌-◌, ◌^◌, ◌≤◌, ◌<◌}
 use native.Mathlib.Numerals.{add-one}
 use native.Mathlib.Omega.{arith}
 use lib.Dec.{leb, eqb}
@@ -22,9 +22,6 @@ use Rattle.ledger.specs.Entries.{slot_at, linked_at}
 use Rattle.ledger.specs.Loops.{changed}
 use Rattle.ledger.specs.Finishing.{with_one, done_by, done_at, finish_to, finish}
 use Rattle.ledger.specs.Releasing.{all_finished, link_now, linked_after, releases_at, next_at, release_to, release}
-
-pub sum_fits : {o a b : ℕ} → o < 2 ^ 32 → a < 2 ^ 32 → b < 2 ^ 32 → o + a * b < 2 ^ 64
-sum_fits {o} {a} {b} h k l = let m : a * b ≤ a * (2 ^ 32 - 1) = mul-le-mul_left a (omega arith) in omega arith
 
 -- the pending server jobs of one server: k is the last that was looked at
 module _ (used link : List ℕ) (i : ℕ) (from : Done) (budget offset period t : ℕ) where
@@ -113,9 +110,9 @@ module _ (plan : Plan) (offsets : List ℕ) (l : Ledger) (t : ℕ) where
   finish_all n i e f h g = let z : i ≡ nodes_of plan = omega arith in f ∙ ap (finish_to plan offsets l t) z
 
   -- one place more released, or not
-  pub release_yes : (i : ℕ) {next : Ledger} {x : Bool} {k a j s m : ℕ} {u : Ledger} → next ≡ release_to plan offsets l t i → x ≡ releases_at plan offsets l t i
-      → x ≡ true → k ≡ next_at plan offsets l t i → a ≡ further (linked_at l i) 1 → j ≡ link_now l.finished (after_at plan i) a k → s ≡ slot_at i k
-      → m ≡ linked_after (linked_at l i) j
+  pub release_yes : (i : ℕ) {next : Ledger} {x : Bool} {k a s m n : ℕ} {j : Option ℕ} {u : Ledger} → next ≡ release_to plan offsets l t i
+      → x ≡ releases_at plan offsets l t i → x ≡ true → k ≡ next_at plan offsets l t i → a ≡ further (linked_at l i) 1
+      → j ≡ link_now l.finished (after_at plan i) a k → s ≡ slot_at i k → m ≡ linked_after (linked_at l i) j → n ≡ unwrap_or j 0
       → u
       ≡ record {
         released = set next.released i k;
@@ -124,13 +121,13 @@ module _ (plan : Plan) (offsets : List ℕ) (l : Ledger) (t : ℕ) where
         finished = next.finished;
         worst = next.worst;
         used = set next.used s 0;
-        link = set next.link s j;
+        link = set next.link s n;
       }
       → u ≡ release_to plan offsets l t (i + 1)
   unfolding changed
-  release_yes i e f g ke ae je se me ue =
+  release_yes i e f g ke ae je se me ne ue =
       let w : releases_at plan offsets l t i ≡ true = sym f ∙ g in
-      ue ∙ rw (add-one i, w, me, se, je, ae, ke, e)
+      ue ∙ rw (add-one i, w, me, ne, se, je, ae, ke, e)
 
   pub release_no : (i : ℕ) {next : Ledger} {x : Bool} → next ≡ release_to plan offsets l t i → x ≡ releases_at plan offsets l t i → x ≡ false
       → next ≡ release_to plan offsets l t (i + 1)

@@ -1,5 +1,5 @@
-// Instants and numbers, and where what is known of a server job stands.
-ghost use Rattle.std.specs.Prelude.{◌≡◌, ◌-◌, ◌<◌, max};
+// Instants, and where what is known of a server job stands.
+ghost use Rattle.std.specs.Prelude.{◌≡◌, ◌<◌};
 ghost use Rattle.window.specs.Entries.{places};
 ghost use Rattle.ledger.specs.Entries as Mirror;
 
@@ -10,7 +10,7 @@ use ledger::Ledger;
 pub fn instant_after(offset: u32, period: u32, periods: u32) -> u64
     ensures { result ≡ Mirror.instant_after offset period periods }
 {
-    offset as u64 + periods as u64 * period as u64
+    u64::from(offset) + u64::from(periods) * u64::from(period)
 }
 
 // The slot of server job k of the server at place i.
@@ -19,23 +19,4 @@ pub fn slot(i: usize, k: u32) -> usize
     ensures { (result ≡ Mirror.slot_at i k) × (result < Mirror.slots) }
 {
     i * Ledger::ROOM + k as usize % Ledger::ROOM
-}
-
-pub fn wide(x: u16) -> u32
-    ensures { result ≡ x }
-{
-    x as u32
-}
-
-// a less b; 0 where b is the larger.
-pub fn less(a: u32, b: u32) -> u32
-    ensures { result ≡ a - b }
-{
-    if a < b { 0 } else { a - b }
-}
-
-pub fn larger(a: u32, b: u32) -> u32
-    ensures { result ≡ max a b }
-{
-    if a < b { b } else { a }
 }

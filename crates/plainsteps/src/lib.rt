@@ -9,5 +9,5 @@ mod releasing;
 
 pub use backlog::backlogged;
 pub use finishing::finish;
-pub use instants::{instant_after, less, slot, wide};
+pub use instants::{instant_after, slot};
 pub use releasing::release;

@@ -11,22 +11,20 @@ use window::Plan;
 pub fn releases(offset: u32, period: u32, released: u32, t: u32) -> bool
     ensures { result ≡ Mirror.releases offset period released t }
 {
-    instant_after(offset, period, released) == t as u64
+    instant_after(offset, period, released) == u64::from(t)
 }
 
-// Whether job j of each predecessor is finished.
+// Whether job j of each predecessor is finished. (The bits of the mask are taken off, the lowest first: an iteration for each predecessor.)
 pub fn all_finished(finished: &[u32; Table::SERVERS], after: u32, j: u32) -> bool
     ensures { result ≡ Mirror.all_finished finished.now after j }
 {
-    let mut m = after;
-    let mut left = numbers::ones(after);
-    while 0 < left {
-        let p = numbers::lowest(m);
+    let mut left = after;
+    while left != 0 {
+        let p = numbers::lowest(left);
         if finished[p as usize] < j {
             return false;
         }
-        m = numbers::without(m, p);
-        left -= 1;
+        left = numbers::without(left, p);
     }
     true
 }
@@ -42,43 +40,31 @@ pub fn is_due(finished: &[u32; Table::SERVERS], after: u32, j: u32, released: u3
     all_finished(finished, after, j)
 }
 
-// Rule 3: the number of the next unlinked job, j, where it is released by now, else 0.
-pub fn link_now(finished: &[u32; Table::SERVERS], after: u32, j: u32, released: u32) -> u32
+// Rule 3: the number of the next unlinked job, j, where it is released by now.
+pub fn link_now(finished: &[u32; Table::SERVERS], after: u32, j: u32, released: u32) -> Option<u32>
     ensures { result ≡ Mirror.link_now finished.now after j released }
 {
-    if is_due(finished, after, j, released) {
-        j
-    } else {
-        0
-    }
-}
-
-// How many are linked after that.
-pub fn linked_after(linked: u32, new: u32) -> u32
-    ensures { result ≡ Mirror.linked_after linked new }
-{
-    if new == 0 { linked } else { new }
+    is_due(finished, after, j, released).then_some(j)
 }
 
 // The releases of t: server job k at each server that has one then, linked or not for good.
-pub fn release(plan: Plan, offsets: [u32; Table::SERVERS], l: Ledger, t: u32) -> Ledger
-    ensures { result ≡ Mirror.release plan offsets l t }
+pub fn release(plan: &Plan, offsets: &[u32; Table::SERVERS], l: &Ledger, t: u32) -> Ledger
+    ensures { result ≡ Mirror.release plan.now offsets.now l.now t }
 {
-    let n = numbers::smaller(plan.nodes, Table::SERVERS);
-    let mut next = l;
-    let mut i: usize = 0;
-    while i < n {
+    let mut next = *l;
+    for i in 0..plan.nodes.min(Table::SERVERS) {
         if releases(offsets[i], plan.period[i], l.released[i], t) {
-            let k = numbers::further(l.released[i], 1);
-            let linked = l.linked[i];
-            let j = link_now(&l.finished, plan.after[i], numbers::further(linked, 1), k);
+            let k = l.released[i].saturating_add(1);
+            let j = l.linked[i].saturating_add(1);
+            let new = link_now(&l.finished, plan.after[i], j, k);
+            let linked = new.unwrap_or(l.linked[i]);
+            let link = new.unwrap_or(0);
             let s = slot(i, k);
             next.released[i] = k;
-            next.linked[i] = linked_after(linked, j);
+            next.linked[i] = linked;
             next.used[s] = 0;
-            next.link[s] = j;
+            next.link[s] = link;
         }
-        i += 1;
     }
     next
 }

@@ -3,76 +3,102 @@
 
 ghost use Rattle.std.specs.Prelude.{◌≡◌, ◌+◌, ◌*◌, ◌≤◌};
 ghost use Rattle.schedule.specs.Limits as Limits;
+ghost use Rattle.window.specs.Entries.{nodes_of};
+ghost use Rattle.ledger.specs.Forming.{same_formed};
 ghost use Rattle.ledger.specs.Walking as Mirror;
 
-use ledger::{How, Ledger, Walk};
+use ledger::{Formed, Ledger};
+use plainranks::run;
+use plainstates::{blank_state, form, same_state};
+use plainsteps::{backlogged, finish, release};
 use table::Table;
-use window::Plan;
+use window::{How, Plan, Walk};
 
 // At instant 0 nothing is released.
 pub fn fresh() -> Ledger
     ensures { result ≡ Mirror.fresh }
 {
     Ledger {
-        released: [0u32; Table::SERVERS],
-        complete: [0u32; Table::SERVERS],
-        linked: [0u32; Table::SERVERS],
-        finished: [0u32; Table::SERVERS],
-        worst: [0u32; Table::SERVERS],
-        used: [0u32; Ledger::SLOTS],
-        link: [0u32; Ledger::SLOTS],
+        released: [0; Table::SERVERS],
+        complete: [0; Table::SERVERS],
+        linked: [0; Table::SERVERS],
+        finished: [0; Table::SERVERS],
+        worst: [0; Table::SERVERS],
+        used: [0; Ledger::SLOTS],
+        link: [0; Ledger::SLOTS],
     }
 }
 
-pub fn ended(how: How, ticks: u32, ledger: Ledger) -> Walk
-    ensures { result ≡ record { how = how; ticks = ticks; ledger = ledger } }
+// How the walk ends at a boundary, if it does: settled where the state there is the one of the boundary before, else unsettled after the last round.
+fn boundary_end(
+    plan: &Plan,
+    state: &Formed,
+    before: &Formed,
+    round: u32,
+    rounds: u32,
+) -> Option<How>
+    ensures { result ≡ Mirror.boundary_end rounds round (same_formed state.now before.now (nodes_of plan.now)) }
 {
-    Walk { how, ticks, ledger }
+    if 0 < round && same_state(plan, state, before) {
+        return Some(How::Settled(round));
+    }
+    (round == rounds).then_some(How::Unsettled)
 }
 
+// Plan and offsets are lent side by side, as the first engine's walk takes them: a struct of both would be taken apart again in each step.
 pub fn walk_to(
-    plan: Plan,
-    offsets: [u32; Table::SERVERS],
+    plan: &Plan,
+    offsets: &[u32; Table::SERVERS],
     origin: u32,
     hyper: u32,
     rounds: u32,
     asked: u32,
-) -> Walk
+) -> Walk<Ledger>
     requires { (origin + rounds * hyper ≤ (Limits.offset).to + (Limits.rounds).to * (Limits.hyperperiod).to) × (1 ≤ hyper) }
-    ensures { result ≡ Mirror.walk_of plan offsets origin hyper rounds asked }
+    ensures { result ≡ Mirror.walk_of plan.now offsets.now origin hyper rounds asked }
 {
-    let n = numbers::smaller(plan.nodes, Table::SERVERS);
     let last = origin + rounds * hyper;
     let mut l = fresh();
-    let mut before = plainstates::blank_state();
-    let mut round: u32 = 0;
+    let mut before = blank_state();
+    let mut round = 0;
     let mut boundary = origin;
-    let mut t: u32 = 0;
-    while t <= last {
+    for t in 0..=last {
         // The state at a boundary is taken before the releases, and its test comes before the backlog test.
         if t == boundary {
-            let state = plainstates::form(plan, offsets, l, t);
-            if 0 < round && plainstates::same_state(state, before, n) {
-                return ended(How::Settled(round), t, l);
-            }
-            if round == rounds {
-                return ended(How::Unsettled, t, l);
+            let state = form(plan, offsets, &l, t);
+            if let Some(how) = boundary_end(plan, &state, &before, round, rounds) {
+                return Walk {
+                    how,
+                    ticks: t,
+                    state: l,
+                };
             }
             before = state;
             round += 1;
-            boundary = numbers::further(boundary, hyper);
+            boundary = boundary.saturating_add(hyper);
         }
-        l = plainsteps::release(plan, offsets, l, t);
-        if plainsteps::backlogged(&l.released, &l.complete, &l.finished, &plan.room, n) {
-            return ended(How::Backlog, t, l);
+        l = release(plan, offsets, &l, t);
+        if backlogged(plan, &l) {
+            return Walk {
+                how: How::Backlog,
+                ticks: t,
+                state: l,
+            };
         }
         if t == asked {
-            return ended(How::Reached, t, l);
+            return Walk {
+                how: How::Reached,
+                ticks: t,
+                state: l,
+            };
         }
-        l = plainranks::run(plan, offsets, l);
-        t += 1;
+        l = run(plan, offsets, &l);
         // Work done up to an instant is finished first.
-        l = plainsteps::finish(plan, offsets, l, t);
+        l = finish(plan, offsets, &l, t + 1);
     }
-    ended(How::Unsettled, t, l)
+    Walk {
+        how: How::Unsettled,
+        ticks: last,
+        state: l,
+    }
 }

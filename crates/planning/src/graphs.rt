@@ -10,7 +10,7 @@ pub fn number_in(y: Graph, i: usize) -> usize
     requires { i < places }
     ensures { result ≡ Mirror.number_in y i }
 {
-    i + 1 - numbers::smaller(y.first, i)
+    i + 1 - y.first.min(i)
 }
 
 // The graph of the next place, where that of place i is graph g, from 0. There is none past the last graph of a table.
@@ -18,8 +18,8 @@ pub fn next_graph(y: Graph, i: usize, g: usize) -> usize
     requires { i < places }
     ensures { result ≡ Mirror.next_graph y i g }
 {
-    if number_in(y, i) == y.nodes {
-        if g < Table::GRAPHS - 1 { g + 1 } else { g }
+    if number_in(y, i) == y.nodes && g < Table::GRAPHS - 1 {
+        g + 1
     } else {
         g
     }

@@ -4,7 +4,6 @@
 #![tactic(auto)]
 
 mod graphs;
-mod narrowing;
 mod offsets;
 mod places;
 mod plans;

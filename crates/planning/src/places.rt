@@ -11,6 +11,7 @@ pub fn at_places(mask: u32, first: u32) -> u32
     if Table::ALL_NODES_TO <= first {
         return 0;
     }
+    // A mask has no iterator: one turn for each bit that is set.
     let mut placed: u32 = 0;
     let mut rest = mask;
     while 0 < rest {

@@ -4,7 +4,6 @@ ghost use Rattle.window.specs.Entries.{places};
 ghost use Rattle.planning.specs.Plans as Mirror;
 
 use crate::graphs::{next_graph, number_in};
-use crate::narrowing::{narrow8, narrow16};
 use crate::places::at_places;
 use table::{Graph, Node, Table};
 use window::Plan;
@@ -27,16 +26,16 @@ pub fn entry_of(x: Node, y: Graph, i: usize) -> Entry
     ensures { result ≡ Mirror.entry_of x y i }
 {
     let number = number_in(y, i);
-    let step = narrow16(y.period) as u32 * Table::ALL_NODES_TO;
+    let step = y.period.min(u32::from(u16::MAX)) * Table::ALL_NODES_TO;
     let room = if number == y.nodes {
         Table::UNFINISHED as u8
     } else {
         u8::MAX
     };
     Entry {
-        budget: narrow16(x.budget),
+        budget: u16::try_from(x.budget).unwrap_or(u16::MAX),
         after: at_places(x.after, (i + 1 - number) as u32),
-        level: narrow8(x.level),
+        level: u8::try_from(x.level).unwrap_or(u8::MAX),
         step,
         lead: step + i as u32,
         room,
@@ -67,11 +66,10 @@ pub fn no_plan(processors: u32, nodes: usize) -> Plan
 pub fn plan_of(table: Table) -> Plan
     ensures { result ≡ Mirror.plan_of table }
 {
-    let n = numbers::smaller(table.nodes, Table::SERVERS);
+    let n = table.nodes.min(Table::SERVERS);
     let mut p = no_plan(table.processors, table.nodes);
     let mut g: usize = 0;
-    let mut i: usize = 0;
-    while i < n {
+    for i in 0..n {
         let y = table.graph[g];
         let e = entry_of(table.node[i], y, i);
         p.budget[i] = e.budget;
@@ -84,7 +82,6 @@ pub fn plan_of(table: Table) -> Plan
         p.graph[i] = (g + 1) as u8;
         p.node[i] = e.node;
         g = next_graph(y, i, g);
-        i += 1;
     }
     p
 }

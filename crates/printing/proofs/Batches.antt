@@ -1,5 +1,5 @@
 -- The text for several tables: for each its line, then its answer, where the one before it ended.
-use mathlib.Core.Path.{◌≡◌, refl, sym, ap, ◌∙◌}
+use mathlib.Core.Path.{◌≡◌, refl, ap, ◌∙◌}
 use mathlib.Core.Bool.{true}
 use mathlib.Core.List.{List, [], ◌∷◌, ◌++◌}
 use Prim.Native.Nat.{ℕ, zero, suc, ◌+◌, ◌-◌, ◌*◌, ◌≤◌, ◌<◌, min}
@@ -8,7 +8,7 @@ use lib.ListN.{length, take, drop, get_or, length-append, length-drop}
 use lib.Seq.{take_all}
 use Rattle.format.specs.Bytes.{bytes, equals, line_feed, decimal}
 use Rattle.schedule.specs.Limits as Limits
-use Rattle.rules.specs.Answers.{Reply, answer_line, printed, report_of}
+use Rattle.rules.specs.Answers.{answer_line, printed, report_of}
 use Rattle.rules.specs.Batch.{add_up, printed_of, table_at, batch_printed_by, batch_printed}
 use Rattle.rules.proofs.CutTables.{report_of_cut}
 use Rattle.writing.specs.Line.{line}

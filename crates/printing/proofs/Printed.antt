@@ -7,13 +7,12 @@ use Prim.Native.Nat.{ℕ, ◌≤◌, ◌<◌}
 use native.Mathlib.Omega.{arith}
 use lib.ListN.{length, take, drop, length-append}
 use lib.Dec.{T}
-use Rattle.rules.specs.declared.Answer.{Answer}
-use Rattle.rules.specs.declared.Answer.TheVariants.{Text, Refused}
+use Rattle.std.specs.Prelude.{Ok, Err}
 use Rattle.format.specs.declared.Refusal.{Refusal}
 use Rattle.format.specs.declared.Refusal.TheVariants.{TooLong}
 use Rattle.schedule.specs.Limits.{table_bytes}
 use Rattle.rules.proofs.CutTables.{report_of_cut, row_of_cut}
-use Rattle.rules.specs.Answers.{Reply, says, refuses, printed, report_of, row_of, fitted, Call, left, call_of}
+use Rattle.rules.specs.Answers.{Answer, Reply, says, refuses, printed, report_of, row_of, fitted, Call, left, call_of}
 use Rattle.writing.specs.Written.{Written}
 use Rattle.writing.specs.Lengths.{longest_report, longest_row, longest_refusal}
 use Rattle.writer.specs.Lengths.{longest_written}
@@ -30,30 +29,30 @@ use borrow.Author.Tests.{le-leb}
 use Rattle.sheet.specs.Calls.{called}
 
 abbrev told_in : Answer → ℕ
-told_in (Text n) = n
-told_in (Refused r) = 0
+told_in (Ok n) = n
+told_in (Err r) = 0
 
 abbrev refusal_in : Answer → Refusal
-refusal_in (Text n) = TooLong
-refusal_in (Refused r) = r
+refusal_in (Ok n) = TooLong
+refusal_in (Err r) = r
 
 abbrev is_text : Answer → Bool
-is_text (Text n) = true
-is_text (Refused r) = false
+is_text (Ok n) = true
+is_text (Err r) = false
 
 module _ (before after : List ℕ) where
-  pub text_left_lem : (n : ℕ) (r : Reply) → called (Text n) after ≡ left before r → Written (printed r) before after n
+  pub text_left_lem : (n : ℕ) (r : Reply) → called (Ok n) after ≡ left before r → Written (printed r) before after n
   unfolding left printed
   text_left_lem n (says s) e = record { size = ap (λ (c : Call). told_in c.answer) e; bytes = ap (λ (c : Call). c.buffer) e }
   text_left_lem n (refuses r) e = absurd (subst T (ap (λ (c : Call). is_text c.answer) e) tt)
 
-  text_bounded : (n m : ℕ) (r : Reply) → ((s : List ℕ) → r ≡ says s → length s ≤ m) → called (Text n) after ≡ left before r → n ≤ m
+  text_bounded : (n m : ℕ) (r : Reply) → ((s : List ℕ) → r ≡ says s → length s ≤ m) → called (Ok n) after ≡ left before r → n ≤ m
   unfolding left
   text_bounded n m (says s) h e = let size : n ≡ length s = ap (λ (c : Call). told_in c.answer) e in omega (arith, h s refl)
   text_bounded n m (refuses r) h e = absurd (subst T (ap (λ (c : Call). is_text c.answer) e) tt)
 
   -- a refused call leaves the buffer as it was
-  pub refusal_left : (f : Refusal) (r : Reply) → called (Refused f) after ≡ left before r → (r ≡ refuses f) × (after ≡ before)
+  pub refusal_left : (f : Refusal) (r : Reply) → called (Err f) after ≡ left before r → (r ≡ refuses f) × (after ≡ before)
   unfolding left
   refusal_left f (says s) e = absurd (subst T (ap (λ (c : Call). is_text c.answer) (sym e)) tt)
   refusal_left f (refuses g) e = (ap (λ (c : Call). refuses (refusal_in c.answer)) (sym e), ap (λ (c : Call). c.buffer) e)
@@ -98,16 +97,16 @@ module _ (q : Question) (table before after : List ℕ) (room : longest_answer q
   unfolding call_of
   answered x e = rw (reply_fits q table (length before) room) at e
 
-  pub text_printed : (n : ℕ) → called (Text n) after ≡ call_of before (reply_of q table) → Written (printed (reply_of q table)) before after n
-  text_printed n e = text_left_lem before after n (reply_of q table) (answered (Text n) e)
+  pub text_printed : (n : ℕ) → called (Ok n) after ≡ call_of before (reply_of q table) → Written (printed (reply_of q table)) before after n
+  text_printed n e = text_left_lem before after n (reply_of q table) (answered (Ok n) e)
 
-  pub text_short : (n : ℕ) → called (Text n) after ≡ call_of before (reply_of q table) → n ≤ longest_answer q
-  text_short n e = text_bounded before after n (longest_answer q) (reply_of q table) (answer_short q table) (answered (Text n) e)
+  pub text_short : (n : ℕ) → called (Ok n) after ≡ call_of before (reply_of q table) → n ≤ longest_answer q
+  text_short n e = text_bounded before after n (longest_answer q) (reply_of q table) (answer_short q table) (answered (Ok n) e)
 
-  pub refusal_printed : (f : Refusal) (over : List ℕ) (n m : ℕ) → called (Refused f) after ≡ call_of before (reply_of q table)
+  pub refusal_printed : (f : Refusal) (over : List ℕ) (n m : ℕ) → called (Err f) after ≡ call_of before (reply_of q table)
       → n ≡ length (printed (refuses f)) → Written (printed (refuses f)) after over m → Written (printed (reply_of q table)) before over n
   refusal_printed f over n m e size w =
-      let (is, same) = refusal_left before after f (reply_of q table) (answered (Refused f) e) in
+      let (is, same) = refusal_left before after f (reply_of q table) (answered (Err f) e) in
       rw is (record { size = size; bytes = rw same at w.bytes })
 
 -- what was written stands within the buffer

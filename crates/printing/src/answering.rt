@@ -1,7 +1,7 @@
 // What the program prints for a question about a table.
 ghost use Rattle.std.specs.Prelude.{◌≡◌, List, ℕ, ◌≤◌, ◌<◌, length};
 ghost use Rattle.schedule.specs.Limits.{table_bytes};
-ghost use Rattle.rules.specs.Answers.{printed, row_of, call_of};
+ghost use Rattle.rules.specs.Answers.{printed, call_of};
 ghost use Rattle.writer.specs.Lengths.{longest_written};
 ghost use Rattle.writing.specs.Lengths.{longest_row};
 ghost use Rattle.writing.specs.Written.{Written};
@@ -13,31 +13,17 @@ use asking::Question;
 use rules::Answer;
 
 // The program tells no ticks walked, by neither engine.
-pub fn asked_row(table: &[u8], instant: u64, text: &mut [u8]) -> Answer
-    ensures { called result text.new ≡ call_of text.old (row_of table.now instant) }
-{
-    let r = sheet::row(table, instant, text);
-    let answer = r.answer;
-    answer
-}
-
-pub fn asked_plain_row(table: &[u8], instant: u64, text: &mut [u8]) -> Answer
-    ensures { called result text.new ≡ call_of text.old (row_of table.now instant) }
-{
-    let r = plain::plain_row(table, instant, text);
-    let answer = r.answer;
-    answer
-}
-
 pub fn asked(q: Question, table: &[u8], text: &mut [u8]) -> Answer
     ensures { called result text.new ≡ call_of text.old (reply_of q table.now) }
 {
     match q {
         Question::Report => sheet::report(table, text),
-        Question::Row(instant) => asked_row(table, instant as u64, text),
+        Question::Row(instant) => sheet::row(table, instant as u64, text).map(|row| row.length),
         Question::Rewrite => editing::rewrite(table, text),
         Question::PlainReport => plain::plain_report(table, text),
-        Question::PlainRow(instant) => asked_plain_row(table, instant as u64, text),
+        Question::PlainRow(instant) => plain::plain_row(table, instant as u64, text).map(
+            |row| row.length,
+        ),
     }
 }
 
@@ -48,10 +34,9 @@ pub fn put_answer(q: Question, table: &[u8], text: &mut [u8]) -> usize
     ensures written { Written (printed (reply_of q table.now)) text.old text.new result }
     ensures upper_bound { result ≤ longest_answer q }
 {
-    let a = asked(q, table, &mut *text);
-    match a {
-        Answer::Text(n) => n,
-        Answer::Refused(f) => {
+    match asked(q, table, &mut *text) {
+        Ok(n) => n,
+        Err(f) => {
             let n = writing::refusal_length(f);
             writing::put_refusal(&mut *text, f);
             n

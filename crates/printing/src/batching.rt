@@ -1,5 +1,5 @@
 // Several tables: each in its slot of a room, and what the program prints for them.
-ghost use Rattle.std.specs.Prelude.{◌≡◌, true, List, ◌++◌, ℕ, ◌+◌, ◌≤◌, min, length};
+ghost use Rattle.std.specs.Prelude.{◌≡◌, true, List, ◌++◌, ℕ, ◌+◌, ◌≤◌, length};
 ghost use Rattle.format.specs.Bytes.{bytes};
 ghost use Rattle.rules.specs.Answers.{answer_line, printed, report_of};
 ghost use Rattle.rules.specs.Batch.{add_up, printed_of, batch_printed};
@@ -16,12 +16,6 @@ use table::Table;
 pub const SLOT: usize = Table::TABLE_BYTES_TO as usize + 1;
 
 pub const SLOTS: usize = Table::TABLES * SLOT;
-
-pub fn least(a: usize, b: usize) -> usize
-    ensures { result ≡ min a b }
-{
-    if a < b { a } else { b }
-}
 
 // A line `table=` with its number, then what is printed for that table alone.
 pub fn put_numbered(number: u32, table: &[u8], text: &mut [u8]) -> usize
@@ -42,12 +36,10 @@ pub fn put_tables(lengths: &[usize], room: &[u8], text: &mut [u8]) -> usize
     ensures upper_bound { result ≤ length text.new }
 {
     let mut at: usize = 0;
-    let mut i: usize = 0;
-    while i < lengths.len() {
+    for (i, length) in lengths.iter().enumerate() {
         let start = i * SLOT;
-        let end = start + least(lengths[i], SLOT);
+        let end = start + (*length).min(SLOT);
         at += put_numbered(i as u32 + 1, &room[start..end], &mut text[at..]);
-        i += 1;
     }
     at
 }

@@ -5,4 +5,4 @@ mod answering;
 mod batching;
 
 pub use answering::put_answer_to;
-pub use batching::{SLOT, SLOTS, least, put_batch};
+pub use batching::{SLOT, SLOTS, put_batch};

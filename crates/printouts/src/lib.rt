@@ -9,8 +9,6 @@ ghost use Rattle.salvaging.specs.Salvage.{longest_list};
 ghost use Rattle.printouts.specs.declared.Output.TheVariants.{Text, Fixes};
 ghost use Rattle.printouts.specs.Outputs.{output_of};
 
-use salvaging::SalvageAnswer;
-
 // What is left of a text, or the list of what was changed.
 #[derive(Clone, Copy)]
 pub enum Output {
@@ -24,10 +22,9 @@ pub fn put_left(bytes: &[u8], text: &mut [u8], list: &mut [u8]) -> usize
     requires longest_list_in_bounds { longest_list ≤ length list.old }
     ensures { Written (printed (output_of Text bytes.now)) text.old text.new result }
 {
-    let a = salvage::salvage(bytes, &mut *text, list);
-    match a {
-        SalvageAnswer::Texts(n, _) => n,
-        SalvageAnswer::Refused(f) => {
+    match salvage::salvage(bytes, &mut *text, list) {
+        Ok(lengths) => lengths.text,
+        Err(f) => {
             let n = writing::refusal_length(f);
             writing::put_refusal(&mut *text, f);
             n
@@ -35,16 +32,15 @@ pub fn put_left(bytes: &[u8], text: &mut [u8], list: &mut [u8]) -> usize
     }
 }
 
-// The list, or a refusal's, at the start of `list`.
+// The list, or a refusal's, at the start of `list`. This one and `put_left` are two, since each promises what its own buffer holds.
 pub fn put_fixes(bytes: &[u8], text: &mut [u8], list: &mut [u8]) -> usize
     requires to_in_bounds { table_bytes.to ≤ length text.old }
     requires longest_list_in_bounds { longest_list ≤ length list.old }
     ensures { Written (printed (output_of Fixes bytes.now)) list.old list.new result }
 {
-    let a = salvage::salvage(bytes, text, &mut *list);
-    match a {
-        SalvageAnswer::Texts(_, n) => n,
-        SalvageAnswer::Refused(f) => {
+    match salvage::salvage(bytes, text, &mut *list) {
+        Ok(lengths) => lengths.list,
+        Err(f) => {
             let n = writing::refusal_length(f);
             writing::put_refusal(&mut *list, f);
             n

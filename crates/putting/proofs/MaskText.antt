@@ -2,7 +2,7 @@
 use mathlib.Core.Path.{◌≡◌, refl, sym, ap, subst, ◌∙◌}
 use mathlib.Core.Bool.{Bool, true, false, ◌&&◌, not, cond, and-false, false≢true}
 use mathlib.Core.List.{List, [], ◌∷◌, ◌++◌}
-use Prim.Native.Nat.{ℕ, zero, suc, ◌+◌, ◌-◌, ◌*◌, ◌/◌, ◌%◌, ◌^◌, ◌<◌, ◌≤◌}
+use Prim.Native.Nat.{ℕ, zero, suc, ◌+◌, ◌-◌, ◌^◌, ◌<◌, ◌≤◌}
 use native.Mathlib.Numerals.{add-one}
 use native.Mathlib.Omega.{arith}
 use lib.Arith.{lt_of_le-ne}
@@ -12,7 +12,7 @@ use borrow.Author.Tests.{eq-eqb, ne_eqb, eqb-true, eqb-false}
 use Rattle.schedule.specs.Lists.{keep, numbers}
 use Rattle.schedule.proofs.Tests.{by_lt, by_test}
 use Rattle.format.specs.Bytes.{bytes, line_feed, comma, decimal}
-use Rattle.numbers.specs.Masks.{width, bit, without, lowest_from, lowest}
+use Rattle.numbers.specs.Masks.{width, bit, without, lowest}
 use Rattle.numbers.proofs.MaskLaws.{bit_without, below_lowest, lowest_set, lowest_below}
 use Rattle.writer.specs.Writing.{numbers_text, list_text}
 use Rattle.memory.specs.Plain.{numbers_in}

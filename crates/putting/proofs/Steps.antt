@@ -1,10 +1,12 @@
 -- One node or graph more of those that are left.
 use mathlib.Core.Path.{◌≡◌, refl, ap, ◌∙◌}
 use mathlib.Core.List.{List, [], ◌++◌}
-use Prim.Native.Nat.{ℕ, zero, suc, ◌+◌, ◌-◌, ◌<◌}
+use Prim.Native.Nat.{ℕ, zero, suc, ◌+◌, ◌-◌, ◌<◌, ◌≤◌}
 use native.Mathlib.Numerals.{add-one}
 use native.Mathlib.Omega.{arith}
-use lib.ListN.{get_or}
+use lib.ListN.{length, get_or, take, drop, length-drop}
+use lib.Seq.{get_or-take, length-take-le}
+use Rattle.std.proofs.lemmas.List.{get_or-drop}
 use Rattle.writer.specs.Writing.{nodes_text, graphs_text}
 use Rattle.memory.specs.declared.plain.PhalandrixNode.{PhalandrixNode}
 use Rattle.memory.specs.declared.plain.PhalandrixGraph.{PhalandrixGraph}
@@ -46,3 +48,41 @@ module _ (graph : List PhalandrixGraph) (nodes : List PhalandrixNode) (g first :
   pub no_graph_lem : graphs_text (graphs_in graph nodes g first 0) [] ≡ []
   unfolding graphs_in graphs_text
   no_graph_lem = refl
+
+-- a graph's own nodes, cut out of those of the table
+nodes_cut_from : (nodes : List PhalandrixNode) (first k m j : ℕ) → j + m ≤ k → nodes_in (take k (drop first nodes)) j m ≡ nodes_in nodes (first + j) m
+nodes_cut_from nodes first k zero j h = refl
+nodes_cut_from nodes first k (suc m) j h =
+    let here : get_or (take k (drop first nodes)) j no_node ≡ get_or nodes (first + j) no_node =
+    get_or-take k (drop first nodes) j no_node (omega arith) ∙ get_or-drop first nodes j no_node in
+    let next : first + suc j ≡ suc (first + j) = omega arith in
+    rw (here, nodes_cut_from nodes first k m (suc j) (omega arith), next) refl
+
+pub nodes_cut : (nodes : List PhalandrixNode) (first k : ℕ) → nodes_in (take k (drop first nodes)) 0 k ≡ nodes_in nodes first k
+nodes_cut nodes first k =
+    let same : first + 0 ≡ first = omega arith in
+    nodes_cut_from nodes first k k 0 (omega arith) ∙ ap (λ (i : ℕ). nodes_in nodes i k) same
+
+module _ (nodes : List PhalandrixNode) (first k : ℕ) where
+  span : first + k - first ≡ k
+  span = omega arith
+
+  pub cut_size : first + k ≤ length nodes → length (take (first + k - first) (drop first nodes)) ≡ k
+  cut_size h = rw span (length-take-le k (drop first nodes) (omega (arith, length-drop first nodes)))
+
+pub graph_cut : (g : PhalandrixGraph) (nodes : List PhalandrixNode) (first : ℕ)
+    → graph_lines g (take (first + g.nodes - first) (drop first nodes)) 0 ≡ graph_lines g nodes first
+graph_cut g nodes first = rw (span nodes first g.nodes, nodes_cut nodes first g.nodes) refl
+
+-- the graphs that a table counts, cut out of its array
+graphs_cut_from : (graph : List PhalandrixGraph) (nodes : List PhalandrixNode) (n left g first : ℕ) → g + left ≤ n
+    → graphs_in (take n graph) nodes g first left ≡ graphs_in graph nodes g first left
+unfolding graphs_in
+graphs_cut_from graph nodes n zero g first h = refl
+graphs_cut_from graph nodes n (suc left) g first h =
+    let here : get_or (take n graph) g no_graph ≡ get_or graph g no_graph = get_or-take n graph g no_graph (omega arith) in
+    rw (here, graphs_cut_from graph nodes n left (suc g) (first + (get_or graph g no_graph).nodes) (omega arith)) refl
+
+pub graphs_cut : (graph : List PhalandrixGraph) (nodes : List PhalandrixNode) (n : ℕ) → n ≤ length graph
+    → graphs_in (take n graph) nodes 0 0 (length (take n graph)) ≡ graphs_in graph nodes 0 0 n
+graphs_cut graph nodes n h = rw (length-take-le n graph h) (graphs_cut_from graph nodes n n 0 0 (omega arith))

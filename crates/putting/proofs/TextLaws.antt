@@ -1,19 +1,17 @@
 -- A text with bytes behind it is the text, and then the bytes; so each part of a table's text is two parts one behind the other.
 use mathlib.Core.Path.{◌≡◌, refl, sym, ap, ◌∙◌}
-use mathlib.Core.List.{List, [], ◌∷◌, ◌++◌, append_assoc, append-nil}
-use Prim.Native.Nat.{ℕ, ◌+◌}
-use native.Mathlib.Omega.{arith}
+use mathlib.Core.List.{List, [], ◌∷◌, ◌++◌, append_assoc}
+use Prim.Native.Nat.{ℕ}
 use lib.ListN.{length}
 use lib.Seq.{append_snoc}
 use Rattle.schedule.specs.Table.{Node, Graph}
-use Rattle.format.specs.Bytes.{bytes, line_feed, equals, comma, decimal}
+use Rattle.format.specs.Bytes.{line_feed, equals, comma, decimal}
 use Rattle.format.specs.Keys as Keys
 use Rattle.format.specs.Keys.{key_at}
 use Rattle.writer.specs.Writing.{numbers_text, list_text, heading_text, number_text, after_text, node_text, nodes_text, graph_head, graph_text, graphs_text, table_head, written_of}
 use Rattle.memory.specs.declared.plain.PhalandrixNode.{PhalandrixNode}
 use Rattle.memory.specs.declared.plain.PhalandrixGraph.{PhalandrixGraph}
 use Rattle.memory.specs.declared.plain.PhalandrixTable.{PhalandrixTable}
-use Rattle.memory.specs.Plain.{numbers_in, node_in, nodes_in, graph_in, graphs_in, table_in}
 use Rattle.memory.proofs.Named.{nodes_counted}
 use Rattle.memory.proofs.GraphCounts.{graphs_counted}
 use Rattle.writing.specs.Line.{ended}
@@ -51,27 +49,27 @@ after_rest vs rest =
     ∙ ap (λ (l : List ℕ). l ++ rest) (sym (heading_rest Keys.after (list_text vs (line_feed ∷ []))))
 
 -- two lines, and three
-two_rest : (k a b : ℕ) (rest : List ℕ) → number_text k a (number_text (k + 1) b rest) ≡ two_lines k a b ++ rest
-two_rest k a b rest =
-    number_rest k a (number_text (k + 1) b rest)
-    ∙ ap (λ (l : List ℕ). number_line k a ++ l) (number_rest (k + 1) b rest)
-    ∙ sym (append_assoc (number_line k a) (number_line (k + 1) b) rest)
-    ∙ ap (λ (l : List ℕ). l ++ rest) (sym (number_rest k a (number_line (k + 1) b)))
+two_rest : (i a j b : ℕ) (rest : List ℕ) → number_text i a (number_text j b rest) ≡ two_lines i a j b ++ rest
+two_rest i a j b rest =
+    number_rest i a (number_text j b rest)
+    ∙ ap (λ (l : List ℕ). number_line i a ++ l) (number_rest j b rest)
+    ∙ sym (append_assoc (number_line i a) (number_line j b) rest)
+    ∙ ap (λ (l : List ℕ). l ++ rest) (sym (number_rest i a (number_line j b)))
 
-three_rest : (k a b c : ℕ) (rest : List ℕ) → number_text k a (number_text (k + 1) b (number_text (k + 2) c rest)) ≡ three_lines k a b c ++ rest
-three_rest k a b c rest =
-    ap (λ (l : List ℕ). number_text k a (number_text (k + 1) b l)) (number_rest (k + 2) c rest)
-    ∙ two_rest k a b (number_line (k + 2) c ++ rest)
-    ∙ sym (append_assoc (two_lines k a b) (number_line (k + 2) c) rest)
-    ∙ ap (λ (l : List ℕ). l ++ rest) (sym (two_rest k a b (number_line (k + 2) c)))
+three_rest : (i a j b k c : ℕ) (rest : List ℕ) → number_text i a (number_text j b (number_text k c rest)) ≡ three_lines i a j b k c ++ rest
+three_rest i a j b k c rest =
+    ap (λ (l : List ℕ). number_text i a (number_text j b l)) (number_rest k c rest)
+    ∙ two_rest i a j b (number_line k c ++ rest)
+    ∙ sym (append_assoc (two_lines i a j b) (number_line k c) rest)
+    ∙ ap (λ (l : List ℕ). l ++ rest) (sym (two_rest i a j b (number_line k c)))
 
 node_rest : (x : Node) (rest : List ℕ) → node_text x rest ≡ node_text x [] ++ rest
 unfolding node_text
 node_rest x rest =
     ap (λ (l : List ℕ). number_text Keys.budget x.budget (number_text Keys.level x.level l)) (after_rest x.after rest)
-    ∙ two_rest Keys.budget x.budget x.level (after_text x.after [] ++ rest)
-    ∙ sym (append_assoc (two_lines Keys.budget x.budget x.level) (after_text x.after []) rest)
-    ∙ ap (λ (l : List ℕ). l ++ rest) (sym (two_rest Keys.budget x.budget x.level (after_text x.after [])))
+    ∙ two_rest Keys.budget x.budget Keys.level x.level (after_text x.after [] ++ rest)
+    ∙ sym (append_assoc (two_lines Keys.budget x.budget Keys.level x.level) (after_text x.after []) rest)
+    ∙ ap (λ (l : List ℕ). l ++ rest) (sym (two_rest Keys.budget x.budget Keys.level x.level (after_text x.after [])))
 
 nodes_rest : (xs : List Node) (rest : List ℕ) → nodes_text xs rest ≡ nodes_text xs [] ++ rest
 unfolding nodes_text
@@ -86,45 +84,43 @@ graph_rest : (G : Graph) (rest : List ℕ) → graph_text G rest ≡ graph_text 
 unfolding graph_text graph_head
 graph_rest G rest =
     let n = length G.nodes in
-    let head = three_lines Keys.period G.period G.offset n in
-    three_rest Keys.period G.period G.offset n (nodes_text G.nodes rest)
+    let head = three_lines Keys.period G.period Keys.offset G.offset Keys.nodes n in
+    three_rest Keys.period G.period Keys.offset G.offset Keys.nodes n (nodes_text G.nodes rest)
     ∙ ap (λ (l : List ℕ). head ++ l) (nodes_rest G.nodes rest)
     ∙ sym (append_assoc head (nodes_text G.nodes []) rest)
-    ∙ ap (λ (l : List ℕ). l ++ rest) (sym (three_rest Keys.period G.period G.offset n (nodes_text G.nodes [])))
+    ∙ ap (λ (l : List ℕ). l ++ rest) (sym (three_rest Keys.period G.period Keys.offset G.offset Keys.nodes n (nodes_text G.nodes [])))
 
 -- the two parts of each text, as code writes them
 pub number_parts : (k v : ℕ) → heading k ++ ended v line_feed ≡ number_line k v
 unfolding number_text
 number_parts k v = sym (heading_rest k (ended v line_feed))
 
-pub two_parts : (k a b : ℕ) → number_line k a ++ number_line (k + 1) b ≡ two_lines k a b
-two_parts k a b = sym (number_rest k a (number_line (k + 1) b))
+pub two_parts : (i a j b : ℕ) → number_line i a ++ number_line j b ≡ two_lines i a j b
+two_parts i a j b = sym (number_rest i a (number_line j b))
 
-pub three_parts : (k a b c : ℕ) → number_line k a ++ two_lines (k + 1) b c ≡ three_lines k a b c
-three_parts k a b c =
-    let e : k + 1 + 1 ≡ k + 2 = omega arith in
-    rw e (sym (number_rest k a (number_text (k + 1) b (number_text (k + 2) c []))))
+pub three_parts : (i a j b k c : ℕ) → number_line i a ++ two_lines j b k c ≡ three_lines i a j b k c
+three_parts i a j b k c = sym (number_rest i a (two_lines j b k c))
 
 pub after_parts : (mask : ℕ) → heading Keys.after ++ list_ended mask ≡ after_line mask
 unfolding after_text
 after_parts mask = sym (heading_rest Keys.after (list_ended mask))
 
-pub node_parts : (x : PhalandrixNode) → two_lines Keys.budget x.budget x.level ++ after_line x.after ≡ node_lines x
+pub node_parts : (x : PhalandrixNode) → two_lines Keys.budget x.budget Keys.level x.level ++ after_line x.after ≡ node_lines x
 unfolding node_text
-node_parts x = sym (two_rest Keys.budget x.budget x.level (after_line x.after))
+node_parts x = sym (two_rest Keys.budget x.budget Keys.level x.level (after_line x.after))
 
 pub graph_parts : (g : PhalandrixGraph) (nodes : List PhalandrixNode) (first : ℕ)
-    → three_lines Keys.period g.period g.offset g.nodes ++ nodes_lines nodes first g.nodes ≡ graph_lines g nodes first
+    → three_lines Keys.period g.period Keys.offset g.offset Keys.nodes g.nodes ++ nodes_lines nodes first g.nodes ≡ graph_lines g nodes first
 unfolding graph_text graph_head
 graph_parts g nodes first =
-    rw (nodes_counted nodes first g.nodes) (sym (three_rest Keys.period g.period g.offset g.nodes (nodes_lines nodes first g.nodes)))
+    rw (nodes_counted nodes first g.nodes) (sym (three_rest Keys.period g.period Keys.offset g.offset Keys.nodes g.nodes (nodes_lines nodes first g.nodes)))
 
 pub table_parts : (t : PhalandrixTable)
-    → three_lines Keys.processors t.processors t.rounds t.graphs ++ graphs_lines t.graph t.node t.graphs ≡ table_lines t
+    → three_lines Keys.processors t.processors Keys.rounds t.rounds Keys.graphs t.graphs ++ graphs_lines t.graph t.node t.graphs ≡ table_lines t
 unfolding written_of table_head
 table_parts t =
     rw (graphs_counted t.graph t.node 0 0 t.graphs)
-    (sym (three_rest Keys.processors t.processors t.rounds t.graphs (graphs_lines t.graph t.node t.graphs)))
+    (sym (three_rest Keys.processors t.processors Keys.rounds t.rounds Keys.graphs t.graphs (graphs_lines t.graph t.node t.graphs)))
 
 -- one more node or graph
 pub node_before : (x : Node) (xs : List Node) → nodes_text (x ∷ xs) [] ≡ node_text x [] ++ nodes_text xs []

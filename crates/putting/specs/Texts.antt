@@ -1,5 +1,5 @@
 -- The texts of the parts of a table in memory, each without bytes behind it: those of writer/specs/Writing.antt.
-use Rattle.std.specs.Prelude.{List, [], ◌∷◌, ℕ, ◌+◌, length}
+use Rattle.std.specs.Prelude.{List, [], ◌∷◌, ℕ, length}
 use Rattle.schedule.specs.Lists.{sum}
 use Rattle.schedule.specs.Table.{Graph}
 use Rattle.format.specs.Bytes.{line_feed}
@@ -15,12 +15,12 @@ heading k = heading_text k []
 abbrev pub number_line : ℕ → ℕ → List ℕ
 number_line k v = number_text k v []
 
--- of key k and those behind it
-abbrev pub two_lines : ℕ → ℕ → ℕ → List ℕ
-two_lines k a b = number_text k a (number_text (k + 1) b [])
+-- of a key and its number each
+abbrev pub two_lines : ℕ → ℕ → ℕ → ℕ → List ℕ
+two_lines i a j b = number_text i a (number_text j b [])
 
-abbrev pub three_lines : ℕ → ℕ → ℕ → ℕ → List ℕ
-three_lines k a b c = number_text k a (number_text (k + 1) b (number_text (k + 2) c []))
+abbrev pub three_lines : ℕ → ℕ → ℕ → ℕ → ℕ → ℕ → List ℕ
+three_lines i a j b k c = number_text i a (number_text j b (number_text k c []))
 
 -- what stands behind `after=`, with LF
 abbrev pub list_ended : ℕ → List ℕ

@@ -20,10 +20,10 @@ use Rattle.numbers.specs.Masks.{unset_below}
 use Rattle.table.specs.declared.Table.{Table as Memory}
 use Rattle.table.specs.Fresh.{empty_table}
 use Rattle.lines.specs.declared.numbering.Three.{Three}
-use Rattle.lines.specs.declared.numbering.Place.{Place as Spot}
 use Rattle.reading.specs.Memory.{with_graph, with_graphs, memory_of}
-use Rattle.lines.specs.Numbered.{map_outcome, place_of, three_lines}
-use Rattle.reading.specs.Outcomes.{Taken, taken, added_graph, ended_graph, table_read_of}
+use Rattle.lines.specs.Numbered.{map_outcome, came_to, three_lines}
+use Rattle.reading.specs.declared.tables.Taken.{Taken}
+use Rattle.reading.specs.Outcomes.{taken, added_graph, ended_graph}
 use Rattle.scanning.proofs.ScannerLaws.{next, past}
 use Rattle.reading.proofs.Successors.{successors}
 
@@ -35,10 +35,10 @@ module _ {A B : Type 0} where
   on_alike P (refused r) f g h e = refl
 
 -- three numbers, and what follows them
-three_then : {B : Type 0} (k : ℕ) (p : Place) (f : Three → Place → Outcome B)
-    → (number_line k p and_then λ a p. number_line (k + 1) p and_then λ b p. number_line (k + 2) p and_then λ c p. f (record { first = a; second = b; third = c }) p)
-    ≡ ((number_line k p and_then λ a p. number_line (k + 1) p and_then λ b p. number_line (k + 2) p and_then λ c p. done (record { first = a; second = b; third = c }) p) and_then f)
-three_then {B} k p f = one (number_line k p)
+three_then : {B : Type 0} (k l m : ℕ) (p : Place) (f : Three → Place → Outcome B)
+    → (number_line k p and_then λ a p. number_line l p and_then λ b p. number_line m p and_then λ c p. f (record { first = a; second = b; third = c }) p)
+    ≡ ((number_line k p and_then λ a p. number_line l p and_then λ b p. number_line m p and_then λ c p. done (record { first = a; second = b; third = c }) p) and_then f)
+three_then {B} k l m p f = one (number_line k p)
   where
     three : (a b : ℕ) (x : Outcome ℕ)
         → (x and_then λ c p. f (record { first = a; second = b; third = c }) p) ≡ ((x and_then λ c p. done (record { first = a; second = b; third = c }) p) and_then f)
@@ -46,27 +46,27 @@ three_then {B} k p f = one (number_line k p)
     three a b (refused r) = refl
 
     two : (a : ℕ) (x : Outcome ℕ)
-        → (x and_then λ b p. number_line (k + 2) p and_then λ c p. f (record { first = a; second = b; third = c }) p)
-        ≡ ((x and_then λ b p. number_line (k + 2) p and_then λ c p. done (record { first = a; second = b; third = c }) p) and_then f)
-    two a (done b p) = three a b (number_line (k + 2) p)
+        → (x and_then λ b p. number_line m p and_then λ c p. f (record { first = a; second = b; third = c }) p)
+        ≡ ((x and_then λ b p. number_line m p and_then λ c p. done (record { first = a; second = b; third = c }) p) and_then f)
+    two a (done b p) = three a b (number_line m p)
     two a (refused r) = refl
 
     one : (x : Outcome ℕ)
-        → (x and_then λ a p. number_line (k + 1) p and_then λ b p. number_line (k + 2) p and_then λ c p. f (record { first = a; second = b; third = c }) p)
-        ≡ ((x and_then λ a p. number_line (k + 1) p and_then λ b p. number_line (k + 2) p and_then λ c p. done (record { first = a; second = b; third = c }) p) and_then f)
-    one (done a p) = two a (number_line (k + 1) p)
+        → (x and_then λ a p. number_line l p and_then λ b p. number_line m p and_then λ c p. f (record { first = a; second = b; third = c }) p)
+        ≡ ((x and_then λ a p. number_line l p and_then λ b p. number_line m p and_then λ c p. done (record { first = a; second = b; third = c }) p) and_then f)
+    one (done a p) = two a (number_line l p)
     one (refused r) = refl
 
 -- a graph's head, and the line of its number of nodes
 pub graph_three : (total : ℕ) (p : Place)
-    → graph total p ≡ three_lines Keys.period 0 p and_then (λ t q. graph_nodes total t.first t.second t.third (q.line - 1) q)
+    → graph total p ≡ three_lines Keys.period Keys.offset Keys.nodes 0 p and_then (λ t q. graph_nodes total t.first t.second t.third (q.line - 1) q)
 unfolding graph three_lines
 graph_three total p =
     on_alike (λ a q. Unit {0}) (number_line Keys.period p) _ _ (any (number_line Keys.period p)) (λ a q u.
     on_alike (λ b r. Unit {0}) (number_line Keys.offset q) _ _ (any (number_line Keys.offset q)) (λ b r v.
     on_alike (λ n t. (within _ n ≡ true) × (t.line ≡ suc r.line)) (number_line Keys.nodes r) _ _ (number_line_holds Keys.nodes r) (λ n t h.
     let e : r.line ≡ t.line - 1 = omega (arith, h.1) in ap (λ (l : ℕ). graph_nodes total a b n l t) e)))
-    ∙ three_then Keys.period p (λ t q. graph_nodes total t.first t.second t.third (q.line - 1) q)
+    ∙ three_then Keys.period Keys.offset Keys.nodes p (λ t q. graph_nodes total t.first t.second t.third (q.line - 1) q)
   where
     any : (x : Outcome ℕ) → Holds (λ a q. Unit {0}) x
     any (done a q) = tt
@@ -75,10 +75,10 @@ graph_three total p =
 -- the table's
 pub table_three : (p : Place)
     → table p
-    ≡ three_lines Keys.processors 0 p and_then (λ t q. graphs_from 0 t.third q and_then λ Gs r. ended (record { processors = t.first; rounds = t.second; graphs = Gs }) r r.bytes)
+    ≡ three_lines Keys.processors Keys.rounds Keys.graphs 0 p and_then (λ t q. graphs_from 0 t.third q and_then λ Gs r. ended (record { processors = t.first; rounds = t.second; graphs = Gs }) r r.bytes)
 unfolding table three_lines
 table_three p =
-    three_then Keys.processors p (λ t q. graphs_from 0 t.third q and_then λ Gs r. ended (record { processors = t.first; rounds = t.second; graphs = Gs }) r r.bytes)
+    three_then Keys.processors Keys.rounds Keys.graphs p (λ t q. graphs_from 0 t.third q and_then λ Gs r. ended (record { processors = t.first; rounds = t.second; graphs = Gs }) r r.bytes)
 
 -- a graph's nodes
 module _ (total period offset n l : ℕ) (p : Place) where
@@ -105,13 +105,13 @@ module _ (t : Memory) (head : Three) (xs : List Node) (taking : Taken) (many : l
   none_left : head.third ≤ (Limits.nodes).to → nodes_formed 1 xs ≡ true → eqb (unset_below (head.third - 1) taking.named) 0 ≡ all_followed xs
   none_left few formed = rw (← many, e) (successors xs (omega arith) formed)
 
-  pub ended_graph_lem : head.third ≤ (Limits.nodes).to → nodes_formed 1 xs ≡ true → (s : List ℕ) (p : Spot)
-      → table_read_of s (ended_graph t head taking.nodes taking.named p)
+  pub ended_graph_lem : head.third ≤ (Limits.nodes).to → nodes_formed 1 xs ≡ true → (p : Place)
+      → came_to p (ended_graph t head taking.nodes taking.named p.line)
       ≡ map_outcome (with_graph t)
-      (cond (all_followed xs) (done (record { period = head.first; offset = head.second; nodes = xs }) (place_of s p)) (refused (AgainstPredecessorRules (p.line - 1) first_column)))
-  ended_graph_lem few formed s p =
+      (cond (all_followed xs) (done (record { period = head.first; offset = head.second; nodes = xs }) p) (refused (AgainstPredecessorRules (p.line - 1) first_column)))
+  ended_graph_lem few formed p =
       by_test (all_followed xs)
-      (λ f. rw (none_left few formed, f) (ap (λ (m : Memory). done m (place_of s p)) added_graph_lem))
+      (λ f. rw (none_left few formed, f) (ap (λ (m : Memory). done m p) added_graph_lem))
       (λ f. rw (none_left few formed, f))
 
 -- graphs from the one after g on, of n
@@ -156,7 +156,15 @@ ended_map a b (done Gs p) = last p.bytes
     last [] = refl
     last (c ∷ rest) = refl
 
--- the code's test for more bytes
+-- the end of a text, whatever was read of it
+pub ended_alike : {A : Type 0} (m : A) (p : Place) → ended m p p.bytes ≡ map_outcome (λ (u : Unit {0}). m) (ended tt p p.bytes)
+ended_alike {A} m p = by_bytes p.bytes
+  where
+    by_bytes : (rest : List ℕ) → ended m p rest ≡ map_outcome (λ (u : Unit {0}). m) (ended tt p rest)
+    by_bytes [] = refl
+    by_bytes (c ∷ rest) = refl
+
+-- the end of a text, by a test for more bytes
 module _ {A : Type 0} (m : A) (l p : ℕ) (s : List ℕ) where
   pub ended_more : p < length s → ended m (record { line = l; bytes = drop p s }) (drop p s) ≡ refused (Misspelled l first_column)
   ended_more h = ap (λ (b : List ℕ). ended m (record { line = l; bytes = drop p s }) b) (next s p h)

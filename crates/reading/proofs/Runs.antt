@@ -28,7 +28,7 @@ module _ {A B C Z : Type 0} where
 abbrev pub row_of : Three → Row
 row_of t = record { budget = t.first; level = t.second; after = t.third }
 
-pub node_three : (own : ℕ) (p : Place) → map_outcome coded_node (node own p) ≡ map_outcome row_of (three_lines Keys.budget own p)
+pub node_three : (own : ℕ) (p : Place) → map_outcome coded_node (node own p) ≡ map_outcome row_of (three_lines Keys.budget Keys.level Keys.after own p)
 unfolding node three_lines
 node_three own p =
     on_same coded_node row_of (number_line Keys.budget p) _ _ (λ b q.
@@ -40,37 +40,37 @@ node_three own p =
     last b v (done m t) = refl
     last b v (refused r) = refl
 
--- the nodes from number own on, of n, into the entries from slot on
-module _ (rows : List Row) (slot named n own : ℕ) (p : Place) where
+-- the nodes behind the first i, of n, into the entries from first + i on
+module _ (rows : List Row) (first named n i : ℕ) (p : Place) where
   nodes_on : (left : ℕ) (x : Outcome Node)
-      → map_outcome (taken rows slot named) (x and_then λ x q. nodes_from (suc own) left q and_then λ xs r. done (x ∷ xs) r)
-      ≡ x and_then (λ x q. map_outcome (taken (set rows slot (coded_node x)) (suc slot) (bit_or named (mask_of x.after))) (nodes_from (suc own) left q))
+      → map_outcome (taken rows (first + i) named) (x and_then λ x q. nodes_from (suc (i + 1)) left q and_then λ xs r. done (x ∷ xs) r)
+      ≡ x and_then (λ x q. map_outcome (taken (set rows (first + i) (coded_node x)) (suc (first + i)) (bit_or named (mask_of x.after))) (nodes_from (suc (i + 1)) left q))
   unfolding named_from
   nodes_on left (refused r) = refl
-  nodes_on left (done x q) = more (nodes_from (suc own) left q)
+  nodes_on left (done x q) = more (nodes_from (suc (i + 1)) left q)
     where
       more : (y : Outcome (List Node))
-          → map_outcome (taken rows slot named) (y and_then λ xs r. done (x ∷ xs) r)
-          ≡ map_outcome (taken (set rows slot (coded_node x)) (suc slot) (bit_or named (mask_of x.after))) y
+          → map_outcome (taken rows (first + i) named) (y and_then λ xs r. done (x ∷ xs) r)
+          ≡ map_outcome (taken (set rows (first + i) (coded_node x)) (suc (first + i)) (bit_or named (mask_of x.after))) y
       more (refused r) = refl
       more (done xs r) = refl
 
-  nodes_step : own ≤ n → map_outcome (taken rows slot named) (nodes_from own (suc n - own) p)
-      ≡ node own p and_then (λ x q. map_outcome (taken (set rows slot (coded_node x)) (slot + 1) (bit_or named (mask_of x.after))) (nodes_from (own + 1) (suc n - (own + 1)) q))
+  nodes_step : i < n → map_outcome (taken rows (first + i) named) (nodes_from (i + 1) (n - i) p)
+      ≡ node (i + 1) p and_then (λ x q. map_outcome (taken (set rows (first + i) (coded_node x)) (first + (i + 1)) (bit_or named (mask_of x.after))) (nodes_from (i + 1 + 1) (n - (i + 1)) q))
   unfolding nodes_from
   nodes_step h =
-      let e : suc n - own ≡ suc (n - own) = omega arith in
-      let g : suc n - (own + 1) ≡ n - own = omega arith in
-      rw (g, e, add-one own, add-one slot) (nodes_on (n - own) (node own p))
+      let e : n - i ≡ suc (n - (i + 1)) = omega arith in
+      let f : first + (i + 1) ≡ suc (first + i) = omega arith in
+      rw (e, f, add-one (i + 1)) (nodes_on (n - (i + 1)) (node (i + 1) p))
 
-  pub nodes_one : own ≤ n → (w : Node) (q : Place) → node own p ≡ done w q
-      → map_outcome (taken rows slot named) (nodes_from own (suc n - own) p)
-      ≡ map_outcome (taken (set rows slot (coded_node w)) (slot + 1) (bit_or named (mask_of w.after))) (nodes_from (own + 1) (suc n - (own + 1)) q)
+  pub nodes_one : i < n → (w : Node) (q : Place) → node (i + 1) p ≡ done w q
+      → map_outcome (taken rows (first + i) named) (nodes_from (i + 1) (n - i) p)
+      ≡ map_outcome (taken (set rows (first + i) (coded_node w)) (first + (i + 1)) (bit_or named (mask_of w.after))) (nodes_from (i + 1 + 1) (n - (i + 1)) q)
   nodes_one h w q e = nodes_step h ∙ rw e
 
-  pub nodes_stop : own ≤ n → (r : Refusal) → node own p ≡ refused r → map_outcome (taken rows slot named) (nodes_from own (suc n - own) p) ≡ refused r
+  pub nodes_stop : i < n → (r : Refusal) → node (i + 1) p ≡ refused r → map_outcome (taken rows (first + i) named) (nodes_from (i + 1) (n - i) p) ≡ refused r
   nodes_stop h r e = nodes_step h ∙ rw e
 
-  pub nodes_none : n < own → map_outcome (taken rows slot named) (nodes_from own (suc n - own) p) ≡ done (record { nodes = rows; named = named }) p
+  pub nodes_none : n ≤ i → map_outcome (taken rows (first + i) named) (nodes_from (i + 1) (n - i) p) ≡ done (record { nodes = rows; named = named }) p
   unfolding nodes_from named_from
-  nodes_none h = let e : suc n - own ≡ 0 = omega arith in rw e
+  nodes_none h = let e : n - i ≡ 0 = omega arith in rw e

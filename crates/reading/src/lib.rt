@@ -3,4 +3,4 @@
 
 mod tables;
 
-pub use tables::{End, TableRead, table_read};
+pub use tables::table_read;

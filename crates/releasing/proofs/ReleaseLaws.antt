@@ -2,58 +2,23 @@
 use mathlib.Core.Path.{◌≡◌, sym, ap, ◌∙◌}
 use mathlib.Core.Bool.{Bool, true, false, ◌&&◌, ◌||◌, not, or-true}
 use mathlib.Core.List.{List}
-use mathlib.Core.Logic.{◌⊎◌}
-use Prim.Native.Nat.{ℕ, ◌+◌, ◌^◌, ◌≤◌, ◌<◌}
+use Prim.Native.Nat.{ℕ, ◌+◌, ◌^◌, ◌≤◌, ◌<◌, min}
 use native.Mathlib.Numerals.{add-one}
-use native.Mathlib.Omega.{arith}
 use lib.Dec.{ltb, eqb}
-use lib.ListN.{get_or, set}
-use borrow.Author.Tests.{lt-ltb, le-ltb, le-leb, lt-leb, eq-eqb, ne_eqb, eqb-true}
+use lib.ListN.{get_or, length, take}
+use borrow.Author.Tests.{lt-ltb, le-ltb, eqb-true}
 use Rattle.numbers.specs.Masks.{width, bit, without, lowest}
 use Rattle.numbers.proofs.Cases.{by_test}
 use Rattle.numbers.proofs.MaskLaws.{no_bit, bit_without, lowest_set, lowest_below}
-use Rattle.schedule.proofs.Tests.{either_way}
-use Rattle.window.specs.Entries.{places, window}
-use Rattle.window.specs.Releasing.{earliest, full_at, one_more, entered_first, counted_unlinked, all_fewer}
-use Rattle.window.proofs.LoopLaws.{all_missed, all_true, all_same}
+use Rattle.window.specs.Entries.{places}
+use Rattle.window.specs.Releasing.{earliest, all_fewer}
+use Rattle.window.proofs.LoopLaws.{first_item, all_missed, all_true, all_same}
 
 -- one instant more
-module _ (next : List ℕ) (i : ℕ) {least : ℕ} (e : least ≡ earliest next i) where
-  pub earliest_now : get_or next i 0 < least → get_or next i 0 ≡ earliest next (i + 1)
-  unfolding earliest
-  earliest_now h = rw (add-one i, ← e) (omega arith)
-
-  pub earliest_before : least ≤ get_or next i 0 → least ≡ earliest next (i + 1)
-  unfolding earliest
-  earliest_before h = rw (add-one i, ← e) (omega arith)
-
--- one more at place i would be a backlog, or not
-module _ (next count unfinished room : List ℕ) (t i : ℕ) where
-  pub full_yes : get_or next i 0 ≡ t → (window ≤ get_or count i 0) ⊎ ((get_or count i 0 < window) × (get_or room i 0 ≤ get_or unfinished i 0))
-      → full_at next count unfinished room t i ≡ true
-  full_yes e h =
-      either_way h (λ x. rw (eq-eqb (get_or next i 0) t e, le-leb window (get_or count i 0) x))
-      (λ x. rw (eq-eqb (get_or next i 0) t e, lt-leb window (get_or count i 0) x.0, le-leb (get_or room i 0) (get_or unfinished i 0) x.1))
-
-  pub full_not : get_or next i 0 ≡ t → get_or count i 0 < window → get_or unfinished i 0 < get_or room i 0 → full_at next count unfinished room t i ≡ false
-  full_not e h l = rw (eq-eqb (get_or next i 0) t e, lt-leb window (get_or count i 0) h, lt-leb (get_or room i 0) (get_or unfinished i 0) l)
-
-  pub full_later : (get_or next i 0 ≡ t → ⊥) → full_at next count unfinished room t i ≡ false
-  full_later e = rw (ne_eqb (get_or next i 0) t e)
-
--- the oldest server job's key
-pub first_entered : (first : List ℕ) (i n key : ℕ) {u : List ℕ} → ((n ≡ 0) × (u ≡ set first i key)) ⊎ ((n ≡ 0 → ⊥) × (u ≡ first))
-    → u ≡ entered_first first i n key
-first_entered first i n key h =
-    either_way h (λ x. rw (eq-eqb n 0 x.0) x.1) (λ x. rw (ne_eqb n 0 x.0) x.1)
-
--- the unlinked jobs
-module _ (unlinked : List ℕ) (i : ℕ) (due : Bool) {u : List ℕ} where
-  pub unlinked_more : due ≡ false → {x : ℕ} → u ≡ set unlinked i x → x ≡ one_more (get_or unlinked i 0) → u ≡ counted_unlinked unlinked i due
-  unlinked_more h e f = rw h (e ∙ ap (set unlinked i) f)
-
-  pub unlinked_same : due ≡ true → u ≡ unlinked → u ≡ counted_unlinked unlinked i due
-  unlinked_same h e = rw h e
+pub earliest_more : (next : List ℕ) (n i : ℕ) {least u : ℕ} → i < length (take n next) → least ≡ earliest next i → u ≡ min least (get_or (take n next) i 0)
+    → u ≡ earliest next (i + 1)
+unfolding earliest
+earliest_more next n i h e f = rw (add-one i, ← e, ← first_item n next i 0 h) f
 
 -- the predecessors of a mask
 module _ (unfinished : List ℕ) (unlinked : ℕ) where
@@ -81,9 +46,9 @@ module _ (unfinished : List ℕ) (unlinked : ℕ) where
       other j e = ap (λ (b : Bool). not b || ltb (get_or unfinished j 0) unlinked) (sym (bit_without m p j ∙ ap (λ (b : Bool). not b && bit m j) e))
 
 -- the lowest bit of a mask that has one
-module _ (m p : ℕ) (some : m ≡ 0 → ⊥) (fits : m < 2 ^ width) (e : p ≡ lowest m) where
+module _ (m p : ℕ) (some : 0 < m) (fits : m < 2 ^ width) (e : p ≡ lowest m) where
   pub low_place : p < places
-  low_place = rw e (lowest_below m (omega arith) fits)
+  low_place = rw e (lowest_below m some fits)
 
   pub low_set : bit m p ≡ true
-  low_set = ap (bit m) e ∙ lowest_set m (lowest_below m (omega arith) fits)
+  low_set = ap (bit m) e ∙ lowest_set m (lowest_below m some fits)

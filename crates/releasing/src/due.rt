@@ -9,15 +9,14 @@ use table::{Pending, Table};
 pub fn all_fewer(unfinished: &[u8; Table::SERVERS], after: u32, unlinked: u8) -> bool
     ensures { result ≡ Mirror.all_fewer unfinished.now after unlinked }
 {
-    let mut m = after;
-    let mut left = numbers::ones(after);
-    while 0 < left {
-        let p = numbers::lowest(m);
+    // The ones of the mask count the predecessors that are left: a turn for each, the lowest first.
+    let mut rest = after;
+    for _turn in 0..numbers::ones(after) {
+        let p = numbers::lowest(rest);
         if unlinked <= unfinished[p as usize] {
             return false;
         }
-        m = numbers::without(m, p);
-        left -= 1;
+        rest = numbers::without(rest, p);
     }
     true
 }
@@ -26,15 +25,7 @@ pub fn all_fewer(unfinished: &[u8; Table::SERVERS], after: u32, unlinked: u8) ->
 pub fn linked_now(due: bool, unlinked: u8) -> Pending
     ensures { result ≡ Mirror.linked_now due unlinked }
 {
-    if due {
-        Pending {
-            behind: unlinked,
-            linked: true,
-        }
-    } else {
-        Pending {
-            behind: 0,
-            linked: false,
-        }
+    Pending {
+        behind: due.then_some(unlinked),
     }
 }

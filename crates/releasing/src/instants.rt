@@ -3,7 +3,7 @@ ghost use Rattle.std.specs.Prelude.{◌≡◌, ◌≤◌, ◌<◌};
 ghost use Rattle.window.specs.Entries.{places};
 ghost use Rattle.window.specs.Releasing as Mirror;
 
-use table::Table;
+use table::{State, Table};
 
 // The earliest of the first n instants.
 pub fn earliest(next: &[u32; Table::SERVERS], n: usize) -> u32
@@ -11,51 +11,36 @@ pub fn earliest(next: &[u32; Table::SERVERS], n: usize) -> u32
     ensures { result ≡ Mirror.earliest next.now n }
 {
     let mut least = u32::MAX;
-    let mut i: usize = 0;
-    while i < n {
-        if next[i] < least {
-            least = next[i];
-        }
-        i += 1;
+    for instant in &next[..n] {
+        least = least.min(*instant);
     }
     least
 }
 
-// Whether one of the first n servers releases at t and has no room: a full window or, of a sink, as many unfinished jobs as are allowed.
-// (Every entry is looked at: that is quicker than to stop at the first.)
-pub fn any_full<'a>(
-    next: &'a [u32; Table::SERVERS],
-    count: &'a [u8; Table::SERVERS],
-    unfinished: &'a [u8; Table::SERVERS],
-    room: &'a [u8; Table::SERVERS],
-    t: u32,
-    n: usize,
-) -> bool
+// Whether the server at i releases at t and has no room: a full window or, of a sink, as many unfinished jobs as are allowed.
+fn is_full(state: &State, room: &[u8; Table::SERVERS], t: u32, i: usize) -> bool
+    requires { i < places }
+    ensures { result ≡ Mirror.full_at state.now.next state.now.count state.now.unfinished room.now t i }
+{
+    state.next[i] == t && (Table::PENDING as u8 <= state.count[i] || room[i] <= state.unfinished[i])
+}
+
+// Whether one of the first n servers is. (Every entry is looked at: that is quicker than to stop at the first.)
+pub fn any_full(state: &State, room: &[u8; Table::SERVERS], t: u32, n: usize) -> bool
     requires { n ≤ places }
-    ensures { result ≡ Mirror.any_full next.now count.now unfinished.now room.now t n }
+    ensures { result ≡ Mirror.any_full state.now.next state.now.count state.now.unfinished room.now t n }
 {
     let mut any = false;
-    let mut i: usize = 0;
-    while i < n {
-        if next[i] == t {
-            if Table::PENDING as u8 <= count[i] || room[i] <= unfinished[i] {
-                any = true;
-            }
-        }
-        i += 1;
+    for i in 0..n {
+        any |= is_full(state, room, t, i);
     }
     any
 }
 
 // Whether the server at i releases at t. (It has room for one more: a walk has tested for a backlog before.)
-pub fn releases<'a>(
-    next: &'a [u32; Table::SERVERS],
-    count: &'a [u8; Table::SERVERS],
-    i: usize,
-    t: u32,
-) -> bool
+pub fn releases(state: &State, i: usize, t: u32) -> bool
     requires { i < places }
-    ensures { result ≡ Mirror.releases_at next.now count.now i t }
+    ensures { result ≡ Mirror.releases_at state.now.next state.now.count i t }
 {
-    next[i] == t && count[i] < Table::PENDING as u8
+    state.next[i] == t && state.count[i] < Table::PENDING as u8
 }

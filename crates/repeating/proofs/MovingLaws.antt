@@ -1,25 +1,15 @@
--- What the functions of moving.rt rest on: a product of two numbers of 32 bits leaves room for a third; one entry more is moved on; and a row
--- moved on has as many entries.
+-- What the functions of moving.rt rest on: one entry more is moved on; and a row moved on has as many entries.
 use mathlib.Core.Path.{◌≡◌}
-use Prim.Native.Nat.{ℕ, ◌+◌, ◌*◌, ◌^◌, ◌≤◌, ◌<◌}
-use native.Mathlib.Nat.{le_trans, mul-le-mul_left, mul-le-mul_right}
+use Prim.Native.Nat.{ℕ, ◌+◌, ◌≤◌}
 use native.Mathlib.Numerals.{add-one}
-use native.Mathlib.Omega.{arith}
 use mathlib.Core.List.{List}
 use lib.ListN.{get_or, set}
 use Rattle.schedule.specs.Limits as Limits
 use Rattle.table.specs.declared.Graph.{Graph}
-use Rattle.window.specs.Entries.{last_key}
 use Rattle.window.specs.Loops.{replaced}
 use Rattle.writing.specs.declared.row.Run.{Run}
 use Rattle.writing.specs.declared.row.Row.{Row}
 use Rattle.repeating.specs.Moving.{no_run, moved_run, moved_to, far_row}
-
-pub product_most : (a b : ℕ) → a < 2 ^ 32 → b < 2 ^ 32 → a * b ≤ last_key * last_key
-product_most a b h l =
-    let p : a ≤ last_key = omega arith in
-    let q : b ≤ last_key = omega arith in
-    le_trans (mul-le-mul_left a q) (mul-le-mul_right last_key p)
 
 -- one turn of the loop
 pub moved_more : (periods : List ℕ) (passed : ℕ) (row : Row) (r : ℕ) {moved : Row} {x : Run} → moved ≡ moved_to periods passed row r

@@ -2,34 +2,26 @@
 ghost use Rattle.std.specs.Prelude.{◌≡◌, ◌-◌, ◌≤◌};
 ghost use Rattle.schedule.specs.FarRows as Rules;
 
-// From `from` to `to`; 0 where `to` comes first.
-pub fn between(from: u32, to: u32) -> u32
-    ensures { result ≡ to - from }
-{
-    if to < from { 0 } else { to - from }
-}
-
 // The instant at which the last round begins.
 pub fn last_round(hyper: u32, stop: u32) -> u32
     ensures { result ≡ Rules.last_round hyper stop }
 {
-    between(hyper, stop)
+    stop.saturating_sub(hyper)
 }
 
+#[tactic(auto, unfolding(schedule::specs::FarRows::matching))]
 pub fn matching(hyper: u32, stop: u32, t: u32) -> u32
     requires { 1 ≤ hyper }
     ensures { result ≡ Rules.matching hyper stop t }
 {
     let begin = last_round(hyper, stop);
-    let since = between(begin, t);
-    begin + since % hyper
+    begin + t.saturating_sub(begin) % hyper
 }
 
+#[tactic(auto, unfolding(schedule::specs::FarRows::passed))]
 pub fn passed(hyper: u32, stop: u32, t: u32) -> u32
     requires { 1 ≤ hyper }
     ensures { result ≡ Rules.passed hyper stop t }
 {
-    let begin = last_round(hyper, stop);
-    let since = between(begin, t);
-    since / hyper
+    t.saturating_sub(last_round(hyper, stop)) / hyper
 }

@@ -3,7 +3,7 @@ ghost use Rattle.std.specs.Prelude.{◌≡◌, ◌≤◌};
 ghost use Rattle.schedule.specs.Limits as Limits;
 ghost use Rattle.repeating.specs.Moving as Mirror;
 
-use crate::instants::{between, passed};
+use crate::instants::passed;
 use table::{Graph, Table};
 use writing::{Row, Run};
 
@@ -11,20 +11,15 @@ use writing::{Row, Run};
 pub fn periods_in(g: Graph, hyper: u32) -> u32
     ensures { result ≡ Mirror.periods_in hyper g }
 {
-    if g.period == 0 {
-        return 0;
-    }
-    hyper / g.period
+    hyper.checked_div(g.period).unwrap_or(0)
 }
 
 pub fn periods_of(graph: [Graph; Table::GRAPHS], hyper: u32) -> [u32; Table::GRAPHS]
     ensures { result ≡ Mirror.periods_of graph hyper }
 {
     let mut periods = [0u32; Table::GRAPHS];
-    let mut g: usize = 0;
-    while g < Table::GRAPHS {
+    for g in 0..Table::GRAPHS {
         periods[g] = periods_in(graph[g], hyper);
-        g += 1;
     }
     periods
 }
@@ -33,24 +28,16 @@ pub fn periods_of(graph: [Graph; Table::GRAPHS], hyper: u32) -> [u32; Table::GRA
 pub fn periods_at(periods: [u32; Table::GRAPHS], g: u32) -> u32
     ensures { result ≡ Mirror.periods_at periods g }
 {
-    let i = between(1, g) as usize;
-    if i < Table::GRAPHS {
-        let n = periods[i];
-        return n;
-    }
-    0
+    let i = g.saturating_sub(1) as usize;
+    periods.get(i).copied().unwrap_or(0)
 }
 
 // A number after `passed` times `periods` periods. A u64 holds every such sum; the largest u32 stands for what is larger, which no row has.
 pub fn later(number: u32, passed: u32, periods: u32) -> u32
     ensures { result ≡ Mirror.later number passed periods }
 {
-    let far = number as u64 + passed as u64 * periods as u64;
-    if far < u32::MAX as u64 {
-        far as u32
-    } else {
-        u32::MAX
-    }
+    let far = u64::from(number) + u64::from(passed) * u64::from(periods);
+    u32::try_from(far).unwrap_or(u32::MAX)
 }
 
 // The same for an invocation: 0 stays 0.
@@ -58,11 +45,13 @@ pub fn later_job(number: u32, passed: u32, periods: u32) -> u32
     ensures { result ≡ Mirror.later_job number passed periods }
 {
     if 0 < number {
-        return later(number, passed, periods);
+        later(number, passed, periods)
+    } else {
+        0
     }
-    0
 }
 
+#[tactic(auto, unfolding(crate::specs::Moving::moved_run))]
 pub fn moved_run(x: Run, periods: [u32; Table::GRAPHS], passed: u32) -> Run
     ensures { result ≡ Mirror.moved_run periods passed x }
 {
@@ -80,16 +69,14 @@ pub fn moved_row(row: Row, periods: [u32; Table::GRAPHS], passed: u32) -> Row
     ensures { result ≡ Mirror.moved_row periods passed row }
 {
     let mut moved = row;
-    let mut r: usize = 0;
-    while r < row.count {
-        let x = moved_run(row.run[r], periods, passed);
-        moved.run[r] = x;
-        r += 1;
+    for r in 0..row.count {
+        moved.run[r] = moved_run(row.run[r], periods, passed);
     }
     moved
 }
 
 // The row at t, at or past the stop of a walk that settled there, from the row at the matching instant.
+#[tactic(auto, unfolding(crate::specs::Moving::far_row))]
 pub fn far_row(there: Row, graph: [Graph; Table::GRAPHS], hyper: u32, stop: u32, t: u32) -> Row
     requires { (there.count ≤ (Limits.processors).to) × (1 ≤ hyper) }
     ensures { result ≡ Mirror.far_row graph hyper stop t there }

@@ -8,6 +8,7 @@ use native.Mathlib.Omega.{arith}
 use lib.Dec.{T, eqb, eqb→eq}
 use lib.ListN.{length, get_or}
 use borrow.Author.Tests.{lt-ltb, le-ltb}
+use Rattle.table.specs.declared.Pending.{Pending}
 use Rattle.schedule.specs.Lists.{keep, joined}
 use Rattle.schedule.specs.Servers.{Server, srv, Box, whole}
 use Rattle.schedule.specs.ServerJobs.{ServerJob, jobs_from, release_of, released, released_before, priority_of, ready_jobs, used}
@@ -19,7 +20,7 @@ use Rattle.theorems.proofs.Ready.{ready_is}
 use Rattle.theorems.proofs.InTurn.{completed}
 use Rattle.theorems.proofs.Linking.{link_of}
 use Rattle.theorems.proofs.Finishing.{link_le}
-use Rattle.table.specs.declared.Pending.{Pending}
+use Rattle.std.specs.Prelude.{unwrap_or}
 use Rattle.table.specs.declared.State.{State}
 use Rattle.window.specs.declared.Plan.{Plan}
 use Rattle.window.specs.Entries.{places, window, slot_of, server_at, count_at, lead_at}
@@ -49,7 +50,7 @@ invocation_is L k p s h =
     by_lt 0 (L k)
     (λ l.
     let e = lt-ltb 0 (L k) l in
-    let b : p.behind ≡ k - L k = s.behind ∙ rw e in
+    let b : unwrap_or p.behind 0 ≡ k - L k = s.behind ∙ rw e in
     rw (s.linked, e, b) (omega arith))
     (λ l. let e = le-ltb 0 (L k) l in rw (s.linked, e) (omega arith))
 

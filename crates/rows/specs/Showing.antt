@@ -1,8 +1,8 @@
 -- The row over windows: what the functions of this crate compute. These definitions are for the proof and not for belief: what a reader
 -- believes is the rules' row.
-use Rattle.std.specs.Prelude.{cond, List, [], ℕ, ◌+◌, ◌-◌, ◌/◌, ◌%◌, get_or, replicate}
-use Rattle.schedule.specs.Limits as Limits
+use Rattle.std.specs.Prelude.{is_some, unwrap_or, cond, List, [], ℕ, ◌+◌, ◌-◌, ◌/◌, ◌%◌, get_or, replicate}
 use Rattle.table.specs.declared.Pending.{Pending}
+use Rattle.schedule.specs.Limits as Limits
 use Rattle.table.specs.declared.Seen.{Seen}
 use Rattle.table.specs.declared.Server.{Server}
 use Rattle.window.specs.declared.Plan.{Plan}
@@ -18,7 +18,7 @@ number_of key lead offset period = ((key - lead) / places - offset) / period + 1
 
 -- the number of the job that is linked to server job `number`, 0 for none
 abbrev pub invocation_of : Pending → ℕ → ℕ
-invocation_of p number = cond p.linked (number - p.behind) 0
+invocation_of p number = cond (is_some p.behind) (number - unwrap_or p.behind 0) 0
 
 abbrev pub blank : ℕ → Row
 blank count =

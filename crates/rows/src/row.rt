@@ -12,14 +12,8 @@ use writing::{Row, Run};
 pub fn blank(count: usize) -> Row
     ensures { result ≡ Mirror.blank count }
 {
-    let none = Run {
-        graph: 0,
-        node: 0,
-        server_job: 0,
-        invocation: 0,
-    };
     Row {
-        run: [none; Table::RUNNING],
+        run: [Run::default(); Table::RUNNING],
         count,
     }
 }
@@ -35,7 +29,7 @@ pub fn row_of(
     requires { plan.processors ≤ (Limits.processors).to }
     ensures { result ≡ Mirror.row_of plan offsets (Mirror.seen_by servers first count) }
 {
-    let n = numbers::smaller(plan.nodes, Table::SERVERS);
+    let n = plan.nodes.min(Table::SERVERS);
     let mut run = [Table::NO_KEY; Table::RUNNING];
     let mut at = [0u16; Table::RUNNING];
     let m = choosing::choose(
@@ -49,22 +43,10 @@ pub fn row_of(
         plan.processors,
     );
     let mut row = blank(m);
-    let mut r: usize = 0;
-    while r < m {
+    for r in 0..m {
         let key = run[r];
         let s = servers[(key % Table::ALL_NODES_TO) as usize];
-        let x = run_of(
-            &plan.graph,
-            &plan.node,
-            &plan.lead,
-            &plan.period,
-            &offsets,
-            s,
-            key,
-            at[r],
-        );
-        row.run[r] = x;
-        r += 1;
+        row.run[r] = run_of(&plan, &offsets, s, key, at[r]);
     }
     row
 }

@@ -1,8 +1,6 @@
 -- The text of an answer, and what a call returns and leaves in the buffer it is lent.
-use Rattle.std.specs.Prelude.{Bool, true, false, ◌&&◌, ◌||◌, cond, List, [], ◌∷◌, ◌++◌, ℕ, min, leb, ltb, length, drop}
+use Rattle.std.specs.Prelude.{Bool, true, false, ◌&&◌, ◌||◌, cond, List, [], ◌∷◌, ◌++◌, ℕ, min, leb, ltb, length, drop, Result, Ok, Err}
 use Prim.Native.String.{String}
-use Rattle.rules.specs.declared.Answer.{Answer}
-use Rattle.rules.specs.declared.Answer.TheVariants.{Text, Refused}
 use Rattle.format.specs.declared.Refusal.{Refusal}
 use Rattle.format.specs.declared.Refusal.TheVariants.{Backlog, Unsettled, PastTheStop, ShortBuffer}
 use Rattle.format.specs.Bytes.{bytes, line_feed, equals, comma, decimal}
@@ -11,6 +9,19 @@ use Rattle.schedule.specs.Limits as Limits
 use Rattle.schedule.specs.Servers.{Box, box_of, whole}
 use Rattle.schedule.specs.Walk.{Stop, settled, unsettled, backlog, Walked, Running, whole_walk, row_at}
 use Rattle.rules.specs.Admission.{Admission, admitted, refused, admission_of}
+use Rattle.rules.specs.declared.RowText.{RowText}
+
+-- what a call answers: the length of the text that it left in the lent buffer, or a refusal
+abbrev pub Answer : Type 0
+Answer = Result ℕ Refusal
+
+-- a row call's has the ticks walked beside the length of its text, and none beside a refusal
+abbrev pub RowAnswer : Type 0
+RowAnswer = Result RowText Refusal
+
+abbrev pub answer_in : RowAnswer → Answer
+answer_in (Ok x) = Ok x.length
+answer_in (Err r) = Err r
 
 -- what is answered, before the buffer is looked at: a text, or a refusal
 pub data Reply : Type 0 where
@@ -89,8 +100,8 @@ row_ticks_of s t = ticks_admitted whole_walk t (admission_of s)
 
 -- they are told beside a text; with a refusal 0 is
 abbrev pub ticks_told : Answer → ℕ → ℕ
-ticks_told (Text n) ticks = ticks
-ticks_told (Refused r) ticks = 0
+ticks_told (Ok n) ticks = ticks
+ticks_told (Err r) ticks = 0
 
 -- refusal 10, for a lent buffer of length n
 unfoldable pub fitted : ℕ → Reply → Reply
@@ -103,8 +114,8 @@ pub record Call : Type 0 where
   pub buffer : List ℕ
 
 unfoldable pub left : List ℕ → Reply → Call
-left buffer (says s) = record { answer = Text (length s); buffer = s ++ drop (length s) buffer }
-left buffer (refuses r) = record { answer = Refused r; buffer = buffer }
+left buffer (says s) = record { answer = Ok (length s); buffer = s ++ drop (length s) buffer }
+left buffer (refuses r) = record { answer = Err r; buffer = buffer }
 
 unfoldable pub call_of : List ℕ → Reply → Call
 call_of buffer reply = left buffer (fitted (length buffer) reply)

@@ -6,8 +6,7 @@ use Rattle.schedule.specs.Lists.{sum}
 use Rattle.schedule.specs.WellFormed.{within}
 use Rattle.format.specs.declared.Refusal.{Refusal}
 use Rattle.format.specs.declared.Refusal.TheVariants.{WrongLengths}
-use Rattle.rules.specs.declared.Answer.{Answer}
-use Rattle.rules.specs.Answers.{Reply, answer_line, printed, report_of, Call, call_of}
+use Rattle.rules.specs.Answers.{Answer, Reply, answer_line, printed, report_of, Call, call_of}
 use Rattle.rules.specs.Answers as Answers
 
 -- what is answered: one answer for each table, or a refusal of all

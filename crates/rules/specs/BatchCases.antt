@@ -1,11 +1,10 @@
 -- Worked cases of several tables in one call. They are computed in proofs/BatchCases.antt.
-use Rattle.std.specs.Prelude.{List, [], ◌∷◌, ◌++◌, map, ℕ, suc, ◌+◌, ◌-◌, length, replicate}
+use Rattle.std.specs.Prelude.{List, [], ◌∷◌, ◌++◌, map, ℕ, suc, ◌+◌, ◌-◌, length, replicate, Ok, Err}
 use Prim.Native.String.{String}
 use Rattle.schedule.specs.Lists.{numbers}
 use Rattle.format.specs.declared.Refusal.TheVariants.{TooLong, Misspelled, NotLoadable, ShortBuffer, WrongLengths}
 use Rattle.format.specs.Bytes.{bytes, line_feed}
-use Rattle.rules.specs.declared.Answer.{Answer}
-use Rattle.rules.specs.declared.Answer.TheVariants.{Text, Refused}
+use Rattle.rules.specs.Answers.{Answer}
 use Rattle.rules.specs.Batch.{Batch, answers, refuses}
 use Rattle.rules.specs.Cases.{node_1_every_4, chain_3_2, two_graphs_lem}
 
@@ -58,24 +57,24 @@ most_length = 18446744073709551615
 unfoldable pub batch_cases : List BatchCase
 batch_cases =
     -- shares of 37 and 37: the second text begins at 37; the last byte is the remainder
-    batch (A ∷ B ∷ []) (Text 36 ∷ Text 36 ∷ []) (says_a ++ (was 36 1 ++ (says_b ++ was 73 2)))
+    batch (A ∷ B ∷ []) (Ok 36 ∷ Ok 36 ∷ []) (says_a ++ (was 36 1 ++ (says_b ++ was 73 2)))
     -- texts that just fit their shares, and shares that are one byte short: the odd byte belongs to none
-    ∷ batch (A ∷ B ∷ []) (Text 36 ∷ Text 36 ∷ []) (says_a ++ (says_b ++ was 72 1))
-    ∷ batch (A ∷ B ∷ []) (Refused ShortBuffer ∷ Refused ShortBuffer ∷ []) (was 0 71)
+    ∷ batch (A ∷ B ∷ []) (Ok 36 ∷ Ok 36 ∷ []) (says_a ++ (says_b ++ was 72 1))
+    ∷ batch (A ∷ B ∷ []) (Err ShortBuffer ∷ Err ShortBuffer ∷ []) (was 0 71)
     -- one legal and one refused, in either order: 2 × 40 + 1 bytes
-    ∷ batch (A ∷ bytes chain_3_2 ∷ []) (Text 36 ∷ Refused NotLoadable ∷ []) (says_a ++ was 36 45)
-    ∷ batch (bytes chain_3_2 ∷ A ∷ []) (Refused NotLoadable ∷ Text 36 ∷ []) (was 0 40 ++ (says_a ++ was 76 5))
+    ∷ batch (A ∷ bytes chain_3_2 ∷ []) (Ok 36 ∷ Err NotLoadable ∷ []) (says_a ++ was 36 45)
+    ∷ batch (bytes chain_3_2 ∷ A ∷ []) (Err NotLoadable ∷ Ok 36 ∷ []) (was 0 40 ++ (says_a ++ was 76 5))
     -- a share too short for one table alone
-    ∷ batch (C ∷ A ∷ []) (Refused ShortBuffer ∷ Text 36 ∷ []) (was 0 40 ++ (says_a ++ was 76 5))
+    ∷ batch (C ∷ A ∷ []) (Err ShortBuffer ∷ Ok 36 ∷ []) (was 0 40 ++ (says_a ++ was 76 5))
     -- a length of 0 is an empty table
-    ∷ batch (A ∷ [] ∷ B ∷ []) (Text 36 ∷ Refused (Misspelled 1 1) ∷ Text 36 ∷ []) (says_a ++ (was 36 36 ++ (says_b ++ was 108 2)))
+    ∷ batch (A ∷ [] ∷ B ∷ []) (Ok 36 ∷ Err (Misspelled 1 1) ∷ Ok 36 ∷ []) (says_a ++ (was 36 36 ++ (says_b ++ was 108 2)))
     -- lengths are taken as given: the second table's lines follow the last line of the first
-    ∷ batch ((A ++ B) ∷ [] ∷ []) (Refused (Misspelled 10 1) ∷ Refused (Misspelled 1 1) ∷ []) (was 0 80)
+    ∷ batch ((A ++ B) ∷ [] ∷ []) (Err (Misspelled 10 1) ∷ Err (Misspelled 1 1) ∷ []) (was 0 80)
     -- the limit of 4,096 bytes is that of one table
-    ∷ batch (replicate 4097 line_feed ∷ A ∷ []) (Refused TooLong ∷ Text 36 ∷ []) (was 0 36 ++ says_a)
+    ∷ batch (replicate 4097 line_feed ∷ A ∷ []) (Err TooLong ∷ Ok 36 ∷ []) (was 0 36 ++ says_a)
     -- one table is the single call; 16 are the most. Of a share of 0 bytes a table's own refusal comes before 10
-    ∷ batch (A ∷ []) (Text 36 ∷ []) (says_a ++ was 36 3)
-    ∷ batch (texts 15 ++ ([] ∷ [])) (replicate 15 (Refused ShortBuffer) ++ (Refused (Misspelled 1 1) ∷ [])) (was 0 15)
+    ∷ batch (A ∷ []) (Ok 36 ∷ []) (says_a ++ was 36 3)
+    ∷ batch (texts 15 ++ ([] ∷ [])) (replicate 15 (Err ShortBuffer) ++ (Err (Misspelled 1 1) ∷ [])) (was 0 15)
     -- none and 17; one short, one over; a sum that wraps at 64 bits to the right one
     ∷ against [] [] 9
     ∷ against (flat (texts 17)) (replicate 17 (length A)) 9

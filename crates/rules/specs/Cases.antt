@@ -1,5 +1,5 @@
 -- Worked cases of admission, of the order of the refusals, of answers and of calls with a lent buffer. They are computed in proofs/Cases.antt.
-use Rattle.std.specs.Prelude.{Bool, true, false, List, [], ◌∷◌, ◌++◌, ℕ, length, replicate}
+use Rattle.std.specs.Prelude.{Bool, true, false, List, [], ◌∷◌, ◌++◌, ℕ, length, replicate, Ok, Err}
 use Prim.Native.String.{String}
 use Rattle.schedule.specs.Table.{Table}
 use Rattle.schedule.specs.Described.{table, graph, alone, one, chain}
@@ -8,10 +8,8 @@ use Rattle.schedule.specs.Walk.{Stop, settled, unsettled, backlog, Walked}
 use Rattle.format.specs.declared.Refusal.{Refusal}
 use Rattle.format.specs.declared.Refusal.TheVariants.{Misspelled, AgainstPredecessorRules, LongHyperperiod, NotLoadable, Backlog, Unsettled, PastTheStop, ShortBuffer, CannotKeepUp}
 use Rattle.format.specs.Bytes.{bytes}
-use Rattle.rules.specs.declared.Answer.{Answer}
-use Rattle.rules.specs.declared.Answer.TheVariants.{Text, Refused}
 use Rattle.rules.specs.Admission.{Admission, admitted, refused}
-use Rattle.rules.specs.Answers.{Reply, report_admitted, row_admitted, Call}
+use Rattle.rules.specs.Answers.{Answer, Reply, report_admitted, row_admitted, Call}
 
 -- admission: H at its limit and past it, the load full and past it, a budget at level × period and past it; and 5 before 6 before 12
 pub record AdmissionCase : Type 0 where
@@ -176,11 +174,11 @@ lent n = replicate n 255
 abbrev pub writes : String → Asked → String → ℕ → CallCase
 writes T q s more =
     let n : ℕ = length (bytes s) in
-    record { table = T; asked = q; room = length (bytes s ++ lent more); gives = record { answer = Text n; buffer = bytes s ++ lent more } }
+    record { table = T; asked = q; room = length (bytes s ++ lent more); gives = record { answer = Ok n; buffer = bytes s ++ lent more } }
 
 -- a refusal, and the buffer as it was
 abbrev pub leaves : String → Asked → ℕ → Refusal → CallCase
-leaves T q n r = record { table = T; asked = q; room = n; gives = record { answer = Refused r; buffer = lent n } }
+leaves T q n r = record { table = T; asked = q; room = n; gives = record { answer = Err r; buffer = lent n } }
 
 unfoldable pub call_cases : List CallCase
 call_cases =
@@ -222,11 +220,11 @@ told a n l c k = record { answer = a; number = n; line = l; column = c; length =
 
 unfoldable pub answer_cases : List AnswerCase
 answer_cases =
-    told (Text 36) 0 0 0 36
-    ∷ told (Text 0) 0 0 0 0
-    ∷ told (Refused (AgainstPredecessorRules 12 9)) 4 12 9 0
-    ∷ told (Refused Backlog) 7 0 0 0
-    ∷ told (Refused CannotKeepUp) 12 0 0 0
+    told (Ok 36) 0 0 0 36
+    ∷ told (Ok 0) 0 0 0 0
+    ∷ told (Err (AgainstPredecessorRules 12 9)) 4 12 9 0
+    ∷ told (Err Backlog) 7 0 0 0
+    ∷ told (Err CannotKeepUp) 12 0 0 0
     ∷ []
 
 -- the ticks told of a row in a lent buffer: the smaller of the instant and the stop, and 0 on a refusal

@@ -4,15 +4,14 @@
 use format::Refusal;
 
 // The length of the text that now stands in the lent buffer; or the refusal, and the buffer is unchanged.
-#[derive(Clone, Copy)]
-pub enum Answer {
-    Text(usize),
-    Refused(Refusal),
-}
+pub type Answer = Result<usize, Refusal>;
 
-// What a row call answers: with a text, the ticks that the rules walk for it from tick 0; with a refusal 0.
+// What a row call tells of its text: the length, and the ticks that the rules walk for it from tick 0.
 #[derive(Clone, Copy)]
-pub struct RowAnswer {
-    pub answer: Answer,
+pub struct RowText {
+    pub length: usize,
     pub walked: u32,
 }
+
+// With a refusal no ticks are told.
+pub type RowAnswer = Result<RowText, Refusal>;

@@ -1,9 +1,9 @@
 -- The loop that measures: the lengths so far, and those of what is still to come, are the lengths of the whole.
-use mathlib.Core.Path.{◌≡◌, refl, sym, ap, ◌∙◌}
-use mathlib.Core.List.{List, ◌++◌}
-use Prim.Native.Nat.{ℕ, suc, ◌+◌, ◌≤◌, ◌<◌}
+use mathlib.Core.Path.{◌≡◌, ap, ◌∙◌}
+use mathlib.Core.List.{List}
+use Prim.Native.Nat.{ℕ, ◌+◌, ◌≤◌, ◌<◌}
 use native.Mathlib.Omega.{arith}
-use lib.ListN.{length, get_or, drop, length-append}
+use lib.ListN.{length, get_or, drop}
 use Rattle.schedule.specs.Limits as Limits
 use Rattle.format.specs.Bytes.{line_feed}
 use Rattle.salvaging.specs.Steps.{salvaged}
@@ -11,8 +11,8 @@ use Rattle.salvaging.specs.Fixes.{fixes_of}
 use Rattle.salvaging.specs.Salvage.{longest_left, longest_list}
 use Rattle.salvaging.proofs.Longest.{text_most, list_most}
 use Rattle.mending.specs.declared.line.Line.{Line}
-use Rattle.mending.specs.declared.line.Added.{Added}
-use Rattle.mending.specs.declared.line.Kinds.{Kinds}
+use Rattle.mending.specs.declared.text.Added.{Added}
+use Rattle.mending.specs.declared.fixes.Kinds.{Kinds}
 use Rattle.mending.specs.Line.{fresh, line_after, ended, added, added_text, text_from, kinds_at, kinds_last, number_after, fixes_text, list_from}
 use Rattle.mending.proofs.TextRead.{text_is}
 use Rattle.mending.proofs.ListRead.{list_is}
@@ -75,9 +75,6 @@ module _ {s : List ℕ} {l : Line} {n text list i : ℕ} (k : Counted s l n text
         }
 
   module _ (past : length s ≤ i) where
-    pub ended_small : (x : Added) → x ≡ ended l → x.blanks ≤ (Limits.table_bytes).to
-    ended_small x e = rw e (omega arith)
-
     pub text_all : (x : Added) (r : ℕ) → x ≡ ended l → ((d : ℕ) → r ≡ length (added_text x d)) → text + r ≡ length (salvaged s)
     text_all x r e h = counted_last (text_from l (drop i s)) (added_text (ended l) line_feed) (length (salvaged s)) text r (text_end s i past l) k.text_so (h line_feed ∙ ap (λ (y : Added). length (added_text y line_feed)) e)
 

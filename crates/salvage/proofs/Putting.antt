@@ -1,33 +1,29 @@
 -- The loop that writes: both outputs are begun, and what is still to come is theirs.
-use mathlib.Core.Path.{◌≡◌, refl, sym, ap, subst, ◌∙◌}
+use mathlib.Core.Path.{◌≡◌}
 use mathlib.Core.List.{List, ◌++◌}
-use Prim.Native.Nat.{ℕ, suc, ◌+◌, ◌-◌, ◌≤◌, ◌<◌}
+use Prim.Native.Nat.{ℕ, ◌+◌, ◌-◌, ◌≤◌, ◌<◌}
 use native.Mathlib.Omega.{arith}
-use lib.ListN.{length, get_or, take, drop, length-append}
+use lib.ListN.{length, get_or, take, drop}
 use Rattle.schedule.specs.Limits as Limits
 use Rattle.format.specs.Bytes.{line_feed}
 use Rattle.writing.specs.Written.{Written}
-use Rattle.writing.proofs.Writing.{begins, room, keeps}
+use Rattle.writing.proofs.Writing.{room}
 use Rattle.salvaging.specs.Steps.{salvaged}
 use Rattle.salvaging.specs.Fixes.{fixes_of}
-use Rattle.salvaging.specs.Salvage.{longest_left, longest_list}
-use Rattle.salvaging.proofs.Longest.{text_most, list_most}
 use Rattle.mending.specs.declared.line.Line.{Line}
-use Rattle.mending.specs.declared.line.Added.{Added}
-use Rattle.mending.specs.declared.line.Kinds.{Kinds}
+use Rattle.mending.specs.declared.text.Added.{Added}
+use Rattle.mending.specs.declared.fixes.Kinds.{Kinds}
 use Rattle.mending.specs.Line.{fresh, line_after, ended, added, added_text, text_from, kinds_at, kinds_last, number_after, fixes_text, list_from}
 use Rattle.salvage.specs.Call.{Filled}
 use Rattle.mending.proofs.TextRead.{text_is}
 use Rattle.mending.proofs.ListRead.{list_is}
 use Rattle.salvage.proofs.Reading.{text_step, list_step, text_end, list_end, blanks_after, number_most}
-use Rattle.salvage.proofs.Begun.{Begun, at_start, fit, fit_last, sum, on, to_end}
+use Rattle.salvage.proofs.Begun.{Begun, at_start, fit, fit_last, on, to_end}
 
 pub record Put (s text₀ list₀ text list : List ℕ) (l : Line) (n text_at list_at i : ℕ) : Type 0 where
   pub within : i ≤ length s
   pub waits : l.blanks ≤ i
   pub numbers : n ≤ i + 1
-  pub text_kept : length text ≡ length text₀
-  pub list_kept : length list ≡ length list₀
   pub text_begun : Begun (salvaged s) (text_from l (drop i s)) text₀ text text_at
   pub list_begun : Begun (fixes_of s) (list_from n l (drop i s)) list₀ list list_at
 
@@ -37,8 +33,6 @@ put_start s text list l e =
       within = omega arith;
       waits = rw e (omega arith);
       numbers = omega arith;
-      text_kept = refl;
-      list_kept = refl;
       text_begun = at_start (salvaged s) (text_from l (drop 0 s)) text (rw e (text_is s));
       list_begun = at_start (fixes_of s) (list_from 1 l (drop 0 s)) list (rw e (list_is s));
     }
@@ -69,21 +63,8 @@ module _ {s text₀ list₀ text list : List ℕ} {l : Line} {n text_at list_at 
       text_fit : length k.text_begun.front + length (added_text x c) ≤ length text₀
       text_fit = fit k.text_begun text-fits (added_text x c) (text_from (line_after l c) (drop (i + 1) s)) next_text
 
-      pub text_begins : text_at ≤ length text
-      text_begins = begins (added_text x c) k.text_begun.written text_fit
-
       pub text_room_lem : length (added_text x c) ≤ length (part text_at text)
       text_room_lem = room (added_text x c) k.text_begun.written text_fit
-
-      pub text_sum : (u : List ℕ) (m : ℕ) → Written (added_text x c) (part text_at text) u m → text_at + m ≤ longest_left
-      text_sum u m w =
-          omega (
-            arith,
-            w.size,
-            k.text_begun.written.size,
-            sum k.text_begun text-fits (added_text x c) (text_from (line_after l c) (drop (i + 1) s)) next_text,
-            text_most s,
-          )
 
     module _ (y : Kinds) (ey : y ≡ kinds_at l c) where
       next_list : list_from n l (drop i s) ≡ fixes_text n y ++ list_from (number_after n c) (line_after l c) (drop (i + 1) s)
@@ -92,21 +73,8 @@ module _ {s text₀ list₀ text list : List ℕ} {l : Line} {n text_at list_at 
       list_fit : length k.list_begun.front + length (fixes_text n y) ≤ length list₀
       list_fit = fit k.list_begun list-fits (fixes_text n y) (list_from (number_after n c) (line_after l c) (drop (i + 1) s)) next_list
 
-      pub list_begins : list_at ≤ length list
-      list_begins = begins (fixes_text n y) k.list_begun.written list_fit
-
       pub list_room_lem : length (fixes_text n y) ≤ length (part list_at list)
       list_room_lem = room (fixes_text n y) k.list_begun.written list_fit
-
-      pub list_sum : (u : List ℕ) (m : ℕ) → Written (fixes_text n y) (part list_at list) u m → list_at + m ≤ longest_list
-      list_sum u m w =
-          omega (
-            arith,
-            w.size,
-            k.list_begun.written.size,
-            sum k.list_begun list-fits (fixes_text n y) (list_from (number_after n c) (line_after l c) (drop (i + 1) s)) next_list,
-            list_most s small,
-          )
 
     pub put_on : (x : Added) (ex : x ≡ added l c) (u : List ℕ) (a : ℕ) → Written (added_text x c) (part text_at text) u a
         → (y : Kinds) (ey : y ≡ kinds_at l c) (v : List ℕ) (b : ℕ) → Written (fixes_text n y) (part list_at list) v b
@@ -117,8 +85,6 @@ module _ {s text₀ list₀ text list : List ℕ} {l : Line} {n text_at list_at 
           within = omega (arith, inside);
           waits = rw el (omega (arith, blanks_after l c, k.waits));
           numbers = rw em (omega (arith, number_most n c, k.numbers));
-          text_kept = keeps (added_text x c) k.text_begun.written (text_fit x ex) wx;
-          list_kept = keeps (fixes_text n y) k.list_begun.written (list_fit y ey) wy;
           text_begun = rw el (on k.text_begun text-fits (added_text x c) (text_from (line_after l c) (drop (i + 1) s)) (next_text x ex) wx);
           list_begun = rw (el, em) (on k.list_begun list-fits (fixes_text n y) (list_from (number_after n c) (line_after l c) (drop (i + 1) s)) (next_list y ey) wy);
         }
@@ -131,17 +97,11 @@ module _ {s text₀ list₀ text list : List ℕ} {l : Line} {n text_at list_at 
       last_text_fit : length k.text_begun.front + length (added_text x line_feed) ≤ length text₀
       last_text_fit = fit_last k.text_begun text-fits (added_text x line_feed) last_text
 
-      pub text_last_begins : text_at ≤ length text
-      text_last_begins = begins (added_text x line_feed) k.text_begun.written last_text_fit
-
       pub text_last_room : length (added_text x line_feed) ≤ length (part text_at text)
       text_last_room = room (added_text x line_feed) k.text_begun.written last_text_fit
 
       pub text_filled : (u : List ℕ) (m : ℕ) → Written (added_text x line_feed) (part text_at text) u m → Filled (salvaged s) text₀ (back text_at text u)
       text_filled u m w = to_end k.text_begun text-fits (added_text x line_feed) last_text w
-
-      pub text_last_kept : (u : List ℕ) (m : ℕ) → Written (added_text x line_feed) (part text_at text) u m → length (back text_at text u) ≡ length text₀
-      text_last_kept u m w = keeps (added_text x line_feed) k.text_begun.written last_text_fit w
 
     module _ (y : Kinds) (ey : y ≡ kinds_last l) where
       last_list_lem : list_from n l (drop i s) ≡ fixes_text n y
@@ -150,14 +110,8 @@ module _ {s text₀ list₀ text list : List ℕ} {l : Line} {n text_at list_at 
       last_list_fit : length k.list_begun.front + length (fixes_text n y) ≤ length list₀
       last_list_fit = fit_last k.list_begun list-fits (fixes_text n y) last_list_lem
 
-      pub list_last_begins : list_at ≤ length list
-      list_last_begins = begins (fixes_text n y) k.list_begun.written last_list_fit
-
       pub list_last_room : length (fixes_text n y) ≤ length (part list_at list)
       list_last_room = room (fixes_text n y) k.list_begun.written last_list_fit
 
       pub list_filled : (u : List ℕ) (m : ℕ) → Written (fixes_text n y) (part list_at list) u m → Filled (fixes_of s) list₀ (back list_at list u)
       list_filled u m w = to_end k.list_begun list-fits (fixes_text n y) last_list_lem w
-
-      pub list_last_kept : (u : List ℕ) (m : ℕ) → Written (fixes_text n y) (part list_at list) u m → length (back list_at list u) ≡ length list₀
-      list_last_kept u m w = keeps (fixes_text n y) k.list_begun.written last_list_fit w

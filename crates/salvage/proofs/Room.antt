@@ -1,8 +1,7 @@
 -- Both outputs fit buffers of a fixed length: what is left is no longer than a table, the list no longer than `longest_list`. So a caller who
 -- lends that much is never refused as 10.
 use mathlib.Core.Path.{◌≡◌, refl}
-use mathlib.Core.Bool.{Bool, true, false, ◌&&◌, cond}
-use mathlib.Core.List.{List, []}
+use mathlib.Core.List.{List}
 use Prim.Native.Nat.{ℕ, ◌≤◌}
 use native.Mathlib.Omega.{arith}
 use lib.Dec.{leb}
@@ -12,7 +11,7 @@ use Rattle.schedule.specs.Limits as Limits
 use Rattle.schedule.proofs.Tests.{by_test}
 use Rattle.salvaging.specs.Steps.{salvaged}
 use Rattle.salvaging.specs.Fixes.{fixes_of}
-use Rattle.salvaging.specs.Salvage.{Salvaging, left, salvage_of, fitted, longest_list}
+use Rattle.salvaging.specs.Salvage.{salvage_of, fitted, longest_list}
 use Rattle.salvaging.proofs.Longest.{list_most}
 
 pub every_salvage_fits : (s : List ℕ) (n m : ℕ) → (Limits.table_bytes).to ≤ n → longest_list ≤ m → fitted n m (salvage_of s) ≡ salvage_of s

@@ -4,7 +4,8 @@ ghost use Rattle.salvaging.specs.Salvage.{salvage_call};
 ghost use Rattle.salvage.specs.Told.{told_of, Told};
 
 use crate::outputs::salvage;
-use salvaging::SalvageAnswer;
+use format::Refusal;
+use salvaging::Lengths;
 
 // 0, 0 and 0 with the lengths of the text and of the list; or a refusal's number, line and column with lengths 0.
 #[repr(C)]
@@ -17,29 +18,31 @@ pub struct PhalandrixSalvage {
     pub list_length: usize,
 }
 
-pub fn told(a: SalvageAnswer) -> PhalandrixSalvage
-    ensures { result ≡ told_of a }
-{
-    match a {
-        SalvageAnswer::Texts(n, m) => PhalandrixSalvage {
-            number: 0,
-            line: 0,
-            column: 0,
-            text_length: n,
-            list_length: m,
-        },
-        SalvageAnswer::Refused(f) => PhalandrixSalvage {
-            number: writing::number_of(f),
-            line: writing::line_of(f),
-            column: writing::column_of(f),
-            text_length: 0,
-            list_length: 0,
-        },
+impl From<Result<Lengths, Refusal>> for PhalandrixSalvage {
+    ghost from_gives = { λ a r. r ≡ told_of a };
+
+    fn from(a: Result<Lengths, Refusal>) -> PhalandrixSalvage {
+        match a {
+            Ok(n) => PhalandrixSalvage {
+                number: 0,
+                line: 0,
+                column: 0,
+                text_length: n.text,
+                list_length: n.list,
+            },
+            Err(f) => PhalandrixSalvage {
+                number: writing::number_of(f),
+                line: writing::line_of(f),
+                column: writing::column_of(f),
+                text_length: 0,
+                list_length: 0,
+            },
+        }
     }
 }
 
 pub fn phalandrix_salvage(bytes: &[u8], text: &mut [u8], list: &mut [u8]) -> PhalandrixSalvage
     ensures { Told result text.new list.new (salvage_call bytes.now text.old list.old) }
 {
-    told(salvage(bytes, text, list))
+    PhalandrixSalvage::from(salvage(bytes, text, list))
 }

@@ -1,14 +1,13 @@
 -- What is left has no carriage return, no empty line and no line that ends in a blank, and each of its lines has its LF. Shown at the end:
 -- `left_neat`.
-use mathlib.Core.Path.{◌≡◌, refl, sym, ap, subst, ◌∙◌}
+use mathlib.Core.Path.{◌≡◌, refl, ap, subst}
 use mathlib.Core.Bool.{Bool, true, false, not, ◌&&◌}
-use mathlib.Core.List.{List, [], ◌∷◌, ◌++◌}
+use mathlib.Core.List.{List, [], ◌∷◌}
 use Prim.Native.Nat.{ℕ}
 use lib.Dec.{eqb}
-use Rattle.schedule.specs.Lists.{all?, keep}
+use Rattle.schedule.specs.Lists.{all?}
 use Rattle.theorems.proofs.Formed.{both}
-use Rattle.format.specs.Bytes.{line_feed}
-use Rattle.salvaging.specs.Lines.{Line, lines_of, empty?}
+use Rattle.salvaging.specs.Lines.{lines_of}
 use Rattle.salvaging.specs.Steps.{blank, plain?, without_returns, trimmed, salvaged}
 use Rattle.salvaging.specs.Neat.{ends_blank, neat?}
 use Rattle.salvaging.proofs.Again.{Clean, Tidy, nothing, line, kept_all, trimmed_first, lines_first, salvaged_tidy}

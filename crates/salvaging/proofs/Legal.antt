@@ -1,9 +1,9 @@
 -- A legal table passes through salvage unchanged, with an empty list; and a second pass changes nothing. Shown at the end:
 -- `legal_unchanged` and `second_pass`.
 use mathlib.Core.Path.{◌≡◌, refl, sym, ap, subst, ◌∙◌}
-use mathlib.Core.Bool.{Bool, true, false, cond}
+use mathlib.Core.Bool.{Bool, true}
 use mathlib.Core.List.{List, [], ◌∷◌, ◌++◌, append_assoc}
-use Prim.Native.Nat.{ℕ, zero, suc, ◌+◌, ◌≤◌}
+use Prim.Native.Nat.{ℕ, zero, suc, ◌+◌}
 use native.Mathlib.Omega.{arith}
 use lib.Dec.{leb}
 use lib.ListN.{length}
@@ -22,7 +22,7 @@ use Rattle.format.specs.Reading.{Place, Outcome, refused, done, column_at, judge
 use Rattle.rules.proofs.Outcomes.{Holds, told, then_holds}
 use Rattle.salvaging.specs.Steps.{salvaged}
 use Rattle.salvaging.specs.Fixes.{fixes_of}
-use Rattle.salvaging.specs.Salvage.{Salvaging, left, salvage_of}
+use Rattle.salvaging.specs.Salvage.{left, salvage_of}
 use Rattle.salvaging.proofs.Again.{Tidy, nothing, tidy_left, tidy_no_fixes, salvaged_tidy}
 use Rattle.salvaging.proofs.Again as Again
 use Rattle.salvaging.proofs.Spelled.{Taken, Takes, Lined, named?, number_line_clean, list_line_clean}

@@ -1,20 +1,20 @@
 -- How long the text and the list can get. Shown at the end: `text_most` and `list_most`.
-use mathlib.Core.Path.{◌≡◌, refl, ap}
-use mathlib.Core.Bool.{Bool, true, false, not, cond}
+use mathlib.Core.Path.{ap}
+use mathlib.Core.Bool.{Bool, true, false, not}
 use mathlib.Core.List.{List, [], ◌∷◌, ◌++◌}
-use Prim.Native.Nat.{ℕ, zero, suc, ◌+◌, ◌*◌, ◌/◌, ◌%◌, ◌≤◌, ◌<◌}
+use Prim.Native.Nat.{ℕ, suc, ◌+◌, ◌*◌, ◌/◌, ◌%◌, ◌≤◌, ◌<◌}
 use native.Mathlib.Omega.{arith}
 use lib.Dec.{eqb}
 use lib.ListN.{length, length-append}
 use Rattle.schedule.specs.Limits as Limits
 use Rattle.schedule.specs.Lists.{one?}
 use Rattle.schedule.proofs.Tests.{by_test, by_lt, one_le_one}
-use Rattle.format.specs.Bytes.{bytes, line_feed, comma, digit_zero, decimal}
+use Rattle.format.specs.Bytes.{line_feed, comma, digit_zero, decimal}
 use Rattle.format.proofs.Decimal.{decimal_one, decimal_more}
 use Rattle.salvaging.specs.Lines.{Line, begun, lines_of, empty?}
 use Rattle.salvaging.specs.Steps.{without_returns, trimmed, unpadded, mended, left_of, salvaged}
 use Rattle.salvaging.specs.Fixes.{changed, fix, fix_if, fixes_kept, fixes_of_line, fixes_from, fixes_of}
-use Rattle.salvaging.specs.Salvage.{longest_left, longest_fix, longest_list}
+use Rattle.salvaging.specs.Salvage.{longest_fix, longest_list}
 use Rattle.salvaging.proofs.Changed.{returns_shorter, trimmed_shorter, unpadded_shorter}
 
 -- the bytes of the lines, each with an LF

@@ -1,12 +1,11 @@
 -- Worked cases of salvage: a text, what is left of it, and the list. They are computed in proofs/Cases.antt.
-use Rattle.std.specs.Prelude.{List, [], ◌∷◌, ◌++◌, ℕ, ◌+◌, ◌-◌, length, replicate}
+use Rattle.std.specs.Prelude.{List, [], ◌∷◌, ◌++◌, ℕ, ◌+◌, ◌-◌, length, replicate, Ok, Err}
 use Prim.Native.String.{String}
 use Rattle.schedule.specs.Limits as Limits
 use Rattle.format.specs.Bytes.{bytes, line_feed}
 use Rattle.format.specs.declared.Refusal.{Refusal}
 use Rattle.format.specs.declared.Refusal.TheVariants.{TooLong, ShortBuffer}
 use Rattle.salvaging.specs.Steps.{carriage_return}
-use Rattle.salvaging.specs.declared.SalvageAnswer.TheVariants.{Texts, Refused}
 use Rattle.salvaging.specs.Salvage.{SalvageCall}
 
 pub record Mending : Type 0 where
@@ -100,12 +99,12 @@ writes s t n f m =
       given = bytes s;
       text_room = length (bytes t ++ lent n);
       list_room = length (bytes f ++ lent m);
-      gives = record { answer = Texts (length (bytes t)) (length (bytes f)); text = bytes t ++ lent n; list = bytes f ++ lent m };
+      gives = record { answer = Ok (record { text = length (bytes t); list = length (bytes f) }); text = bytes t ++ lent n; list = bytes f ++ lent m };
     }
 
 -- a refusal, and both buffers as they were
 abbrev pub leaves : List ℕ → ℕ → ℕ → Refusal → CallCase
-leaves s n m r = record { given = s; text_room = n; list_room = m; gives = record { answer = Refused r; text = lent n; list = lent m } }
+leaves s n m r = record { given = s; text_room = n; list_room = m; gives = record { answer = Err r; text = lent n; list = lent m } }
 
 unfoldable pub call_cases : List CallCase
 call_cases =

@@ -1,5 +1,5 @@
 -- What is promised of every line that is left.
-use Rattle.std.specs.Prelude.{Bool, true, false, not, ◌&&◌, List, [], ◌∷◌, ℕ, eqb}
+use Rattle.std.specs.Prelude.{Bool, false, not, ◌&&◌, List, [], ◌∷◌, ℕ, eqb}
 use Rattle.schedule.specs.Lists.{all?}
 use Rattle.salvaging.specs.Lines.{Line, empty?}
 use Rattle.salvaging.specs.Steps.{blank, plain?}

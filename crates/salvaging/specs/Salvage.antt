@@ -1,11 +1,10 @@
 -- Salvage: the text left and the list, or a refusal; and what the call returns and leaves in the two buffers it is lent.
-use Rattle.std.specs.Prelude.{◌&&◌, cond, List, ◌++◌, ℕ, ◌+◌, ◌*◌, leb, length, drop}
+use Rattle.std.specs.Prelude.{◌&&◌, cond, List, ◌++◌, ℕ, ◌+◌, ◌*◌, leb, length, drop, Result, Ok, Err}
 use Rattle.schedule.specs.Limits as Limits
 use Rattle.format.specs.Bytes.{bytes}
 use Rattle.format.specs.declared.Refusal.{Refusal}
 use Rattle.format.specs.declared.Refusal.TheVariants.{TooLong, ShortBuffer}
-use Rattle.salvaging.specs.declared.SalvageAnswer.{SalvageAnswer}
-use Rattle.salvaging.specs.declared.SalvageAnswer.TheVariants.{Texts, Refused}
+use Rattle.salvaging.specs.declared.Lengths.{Lengths}
 use Rattle.salvaging.specs.Steps.{salvaged}
 use Rattle.salvaging.specs.Fixes.{fixes_of}
 
@@ -29,14 +28,14 @@ fitted n m (left t f) = cond (leb (length t) n && leb (length f) m) (left t f) (
 -- what a call returns, and what it leaves in the two buffers: the text and the list from their starts on; bytes after them, and all on a
 -- refusal, as they were
 pub record SalvageCall : Type 0 where
-  pub answer : SalvageAnswer
+  pub answer : Result Lengths Refusal
   pub text : List ℕ
   pub list : List ℕ
 
 unfoldable pub leaves : List ℕ → List ℕ → Salvaging → SalvageCall
-leaves text list (refused r) = record { answer = Refused r; text = text; list = list }
+leaves text list (refused r) = record { answer = Err r; text = text; list = list }
 leaves text list (left t f) =
-    record { answer = Texts (length t) (length f); text = t ++ drop (length t) text; list = f ++ drop (length f) list }
+    record { answer = Ok (record { text = length t; list = length f }); text = t ++ drop (length t) text; list = f ++ drop (length f) list }
 
 unfoldable pub salvage_call : List ℕ → List ℕ → List ℕ → SalvageCall
 salvage_call s text list = leaves text list (fitted (length text) (length list) (salvage_of s))

@@ -1,5 +1,5 @@
 -- The steps of salvage, in their order, on the bytes of a line.
-use Rattle.std.specs.Prelude.{Bool, true, false, not, ◌&&◌, cond, List, [], ◌∷◌, ◌++◌, ℕ, eqb}
+use Rattle.std.specs.Prelude.{Bool, false, not, ◌&&◌, cond, List, [], ◌∷◌, ◌++◌, ℕ, eqb}
 use Rattle.schedule.specs.Lists.{keep}
 use Rattle.format.specs.Bytes.{line_feed, equals, digit_zero, is_digit}
 use Rattle.salvaging.specs.Lines.{Line, lines_of, empty?}

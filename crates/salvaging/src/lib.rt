@@ -1,11 +1,10 @@
 // A text that an editor spoiled, mended: specs/. This crate has no code.
 #![tactic(auto)]
 
-use format::Refusal;
-
-// The lengths of the text and of the list that now stand in the lent buffers; or the refusal, and both buffers are unchanged.
+// The lengths of the text and of the list that now stand in the lent buffers. A call answers with them, or with the refusal, and both buffers
+// are then unchanged.
 #[derive(Clone, Copy)]
-pub enum SalvageAnswer {
-    Texts(usize, usize),
-    Refused(Refusal),
+pub struct Lengths {
+    pub text: usize,
+    pub list: usize,
 }

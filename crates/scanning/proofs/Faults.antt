@@ -5,12 +5,12 @@ use mathlib.Core.List.{List, [], ◌∷◌, tail}
 use Prim.Native.Nat.{ℕ, zero, suc, ◌+◌, ◌<◌, ◌≤◌}
 use native.Mathlib.Nat.{not-suc-le-zero}
 use native.Mathlib.Omega.{arith}
-use lib.Dec.{leb, ltb, eqb}
+use lib.Dec.{leb, ltb}
 use lib.ListN.{length}
 use borrow.Author.Tests.{le-ltb, leb-true, leb-false}
 use Rattle.format.specs.Bytes.{comma}
-use Rattle.format.specs.Spelling.{Scan, read, wrong, number, next?}
-use Rattle.format.specs.Reading.{offending_from, offending_by}
+use Rattle.format.specs.Spelling.{read, wrong, number, next?}
+use Rattle.format.specs.Reading.{offending_by}
 use Rattle.schedule.proofs.Tests.{by_test}
 use Rattle.scanning.specs.Positions.{far, kept, capped}
 use Rattle.scanning.proofs.Images.{image_read, image_wrong}

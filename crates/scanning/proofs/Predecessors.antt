@@ -19,7 +19,8 @@ use Rattle.numbers.proofs.Counts.{ones_without}
 use Rattle.table.specs.declared.Range.{Range}
 use Rattle.scanning.specs.declared.lists.Listing.{Listing}
 use Rattle.scanning.specs.Positions.{map_scan, far, kept, capped}
-use Rattle.scanning.specs.Masks.{mask_from, mask_of, in_range, fair_list, entered, entries, no_entries, listing, in_order}
+use Rattle.table.specs.Limits.{in_range}
+use Rattle.scanning.specs.Masks.{mask_from, mask_of, fair_list, entered, entries, no_entries, listing, in_order}
 use Rattle.scanning.proofs.Images.{image_read, image_wrong}
 use Rattle.scanning.proofs.MaskBits.{Fits, mask_bit}
 

@@ -1,16 +1,16 @@
 -- The scanners at a position of the bytes: at the end, and at a byte. Two laws, `next` and `past`, carry the others.
-use mathlib.Core.Path.{◌≡◌, sym, ◌∙◌, ap}
+use mathlib.Core.Path.{◌≡◌, refl, sym, ◌∙◌, ap}
 use mathlib.Core.Bool.{true, false, cond}
 use mathlib.Core.List.{List, [], ◌∷◌, tail}
 use Prim.Native.Nat.{ℕ, ◌+◌, ◌*◌, ◌<◌, ◌≤◌}
 use native.Mathlib.Numerals.{add-one}
 use native.Mathlib.Omega.{arith}
-use lib.Dec.{leb}
-use lib.ListN.{length, get_or, take, drop, drop_of_length-le, length-take}
-use lib.Seq.{drop-cons, length-take-le, get_or-take}
+use lib.Dec.{leb, eqb}
+use lib.ListN.{length, get_or, drop, drop_of_length-le}
+use lib.Seq.{drop-cons}
 use borrow.Author.Tests.{eq-eqb, ne_eqb, leb-true, leb-false}
 use Rattle.format.specs.Bytes.{digit_zero, is_digit, value_of}
-use Rattle.format.specs.Spelling.{read, wrong, text, digits, number, next?}
+use Rattle.format.specs.Spelling.{read, wrong, ◌⟫◌, text, digits, number, next?}
 use Rattle.theorems.proofs.Formed.{first_of_lem, second_of}
 use Rattle.schedule.proofs.Tests.{by_test}
 use Rattle.scanning.specs.Positions.{far, kept, capped}
@@ -22,38 +22,19 @@ next s p h = rw (add-one p) (drop-cons s p 0 h)
 pub past : (s : List ℕ) (p : ℕ) → length s ≤ p → drop p s ≡ []
 past s p h = drop_of_length-le s h
 
--- a text
-pub text_past : (t : ℕ) (ts s : List ℕ) (p : ℕ) → length s ≤ p → text (t ∷ ts) (drop p s) ≡ wrong (drop p s)
+-- a text: its first byte, and the bytes behind that
+text_first : (t : ℕ) (ts s : List ℕ) → text (t ∷ ts) s ≡ text (t ∷ []) s ⟫ (λ u rest. text ts rest)
 unfolding text
-text_past t ts s p h = rw (past s p h)
+text_first t ts [] = refl
+text_first t ts (c ∷ s) = by_test (eqb c t) (λ e. rw e) (λ e. rw e)
 
-pub text_same : (t : ℕ) (ts s : List ℕ) (p : ℕ) → p < length s → get_or s p 0 ≡ t → text (t ∷ ts) (drop p s) ≡ text ts (drop (p + 1) s)
+-- the part of it from i on
+pub text_step : (t b : List ℕ) (i : ℕ) → i < length t → text (drop i t) b ≡ text (get_or t i 0 ∷ []) b ⟫ (λ u rest. text (drop (i + 1) t) rest)
+text_step t b i h = rw (next t i h) (text_first (get_or t i 0) (drop (i + 1) t) b)
+
+pub text_done : (t b : List ℕ) (i : ℕ) → length t ≤ i → text (drop i t) b ≡ read tt b
 unfolding text
-text_same t ts s p h e = rw (next s p h, eq-eqb (get_or s p 0) t e)
-
-pub text_other : (t : ℕ) (ts s : List ℕ) (p : ℕ) → p < length s → (get_or s p 0 ≡ t → ⊥) → text (t ∷ ts) (drop p s) ≡ wrong (drop p s)
-unfolding text
-text_other t ts s p h e = rw (next s p h, ne_eqb (get_or s p 0) t e)
-
--- the part of a text that is still to be found: of the first n bytes of t, those from i on
-to_go : (t : List ℕ) (n i : ℕ) → i < n → n ≤ length t → drop i (take n t) ≡ get_or t i 0 ∷ drop (i + 1) (take n t)
-to_go t n i h k =
-    let l : length (take n t) ≡ n = length-take-le n t k in
-    next (take n t) i (omega arith) ∙ ap (λ (x : ℕ). x ∷ drop (i + 1) (take n t)) (get_or-take n t i 0 h)
-
-module _ (t s : List ℕ) (n i p : ℕ) (h : i < n) (k : n ≤ length t) where
-  pub rest_past : length s ≤ p → text (drop i (take n t)) (drop p s) ≡ wrong (drop p s)
-  rest_past e = rw (to_go t n i h k) (text_past (get_or t i 0) (drop (i + 1) (take n t)) s p e)
-
-  pub rest_other : p < length s → (get_or s p 0 ≡ get_or t i 0 → ⊥) → text (drop i (take n t)) (drop p s) ≡ wrong (drop p s)
-  rest_other l e = rw (to_go t n i h k) (text_other (get_or t i 0) (drop (i + 1) (take n t)) s p l e)
-
-  pub rest_same : p < length s → get_or s p 0 ≡ get_or t i 0 → text (drop i (take n t)) (drop p s) ≡ text (drop (i + 1) (take n t)) (drop (p + 1) s)
-  rest_same l e = rw (to_go t n i h k) (text_same (get_or t i 0) (drop (i + 1) (take n t)) s p l e)
-
-pub rest_found : (t b : List ℕ) (n i : ℕ) → i ≡ n → text (drop i (take n t)) b ≡ read tt b
-unfolding text
-rest_found t b n i e = rw (e, past (take n t) n (rw length-take (omega arith)))
+text_done t b i h = rw (past t i h)
 
 -- the next byte
 pub next_past : (c : ℕ) (s : List ℕ) (p : ℕ) → length s ≤ p → next? c (drop p s) ≡ false
@@ -67,6 +48,20 @@ next_in c s p e = by_test (leb (length s) p) (λ t. absurd (no (sym (next_past c
 
 pub tail_drop : (s : List ℕ) (q : ℕ) → q < length s → tail (drop q s) ≡ drop (q + 1) s
 tail_drop s q h = rw (next s q h)
+
+-- a text of one byte
+pub byte_found : (b : ℕ) (s : List ℕ) (p : ℕ) → next? b (drop p s) ≡ true → text (b ∷ []) (drop p s) ≡ read tt (drop (p + 1) s)
+unfolding text
+byte_found b s p e = by_rest (drop p s) e ∙ ap (λ (r : List ℕ). read tt r) (tail_drop s p (next_in b s p e))
+  where
+    by_rest : (r : List ℕ) → next? b r ≡ true → text (b ∷ []) r ≡ read tt (tail r)
+    by_rest [] e = absurd (let z : ◌≡◌ {A = ℕ} 0 1 = cc in omega arith)
+    by_rest (c ∷ r) e = rw e
+
+pub byte_missed : (b : ℕ) (r : List ℕ) → next? b r ≡ false → text (b ∷ []) r ≡ wrong r
+unfolding text
+byte_missed b [] e = refl
+byte_missed b (c ∷ r) e = rw e
 
 -- digits
 pub digit_value : (c : ℕ) → is_digit c ≡ true → (digit_zero ≤ c) × (c ≤ digit_zero + 9)

@@ -1,14 +1,12 @@
 -- A list of predecessors as a mask: bit p - 1 is set for predecessor p.
-use Rattle.std.specs.Prelude.{Bool, true, false, ◌&&◌, cond, List, [], ◌∷◌, ℕ, ◌-◌, leb, ltb, eqb, drop}
+use Rattle.std.specs.Prelude.{Bool, true, false, ◌&&◌, cond, List, [], ◌∷◌, ℕ, ◌-◌, ltb, eqb}
 use Rattle.schedule.specs.Limits as Limits
 use Rattle.schedule.specs.Lists.{all?, keep, up_to}
-use Rattle.format.specs.Spelling.{Scan, read, wrong}
 use Rattle.schedule.specs.WellFormed.{orderly}
 use Rattle.numbers.specs.Masks.{bit, with, ones}
 use Rattle.table.specs.declared.Range.{Range}
+use Rattle.table.specs.Limits.{in_range}
 use Rattle.scanning.specs.declared.lists.Listing.{Listing}
-use Rattle.scanning.specs.declared.lists.Listed.{Listed}
-use Rattle.scanning.specs.declared.lists.Listed.TheVariants as Listed
 
 -- the mask of a list, put into the mask m
 unfoldable pub mask_from : ℕ → List ℕ → ℕ
@@ -22,10 +20,7 @@ mask_of l = mask_from 0 l
 abbrev pub list_of : ℕ → List ℕ
 list_of m = keep (λ (p : ℕ). bit m (p - 1)) (up_to (Limits.predecessor).to)
 
--- a number within the limits of a key as code has them; and a list that keeps the predecessor rules, each of its numbers within them
-abbrev pub in_range : Range → ℕ → Bool
-in_range r v = leb r.from v && leb v r.to
-
+-- a list that keeps the predecessor rules, each of its numbers within the limits of its key as code has them
 abbrev pub fair_list : Range → ℕ → List ℕ → Bool
 fair_list r own l = all? (in_range r) l && orderly own l
 
@@ -49,7 +44,3 @@ listing r own l = entries r own no_entries l
 
 abbrev pub in_order : ℕ → Listing → Bool
 in_order own l = cond (eqb (ones l.mask) 0) (l.orderly && eqb own 1) l.orderly
-
-abbrev pub listed_of : List ℕ → Listed → Scan Listing
-listed_of s (Listed.List l p) = read l (drop p s)
-listed_of s (Listed.Wrong p) = wrong (drop p s)

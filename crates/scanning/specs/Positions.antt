@@ -1,18 +1,17 @@
 -- What the scanners' answers say in the rules' terms: a position p of the bytes s stands for the bytes from there on, `drop p s`.
-use Rattle.std.specs.Prelude.{List, ℕ, min, drop}
+use Rattle.std.specs.Prelude.{List, ℕ, min, drop, Result, Ok, Err}
 use Rattle.format.specs.Spelling.{Scan, read, wrong}
-use Rattle.scanning.specs.declared.scanners.Found.{Found}
-use Rattle.scanning.specs.declared.scanners.Found.TheVariants as Found
-use Rattle.scanning.specs.declared.scanners.Scanned.{Scanned}
-use Rattle.scanning.specs.declared.scanners.Scanned.TheVariants as Scanned
+use Rattle.scanning.specs.declared.scanners.Wrong.{Wrong}
 
-abbrev pub found_of : List ℕ → Found → Scan (Unit {0})
-found_of s (Found.After p) = read tt (drop p s)
-found_of s (Found.Wrong p) = wrong (drop p s)
+-- a value and the position after it
+abbrev pub scanned_of : {A : Type 0} → List ℕ → Result (A × ℕ) Wrong → Scan A
+scanned_of s (Ok r) = read r.0 (drop r.1 s)
+scanned_of s (Err w) = wrong (drop w.at s)
 
-abbrev pub scanned_of : List ℕ → Scanned → Scan ℕ
-scanned_of s (Scanned.Number v p) = read v (drop p s)
-scanned_of s (Scanned.Wrong p) = wrong (drop p s)
+-- the position after a text, which has no value
+abbrev pub found_of : List ℕ → Result ℕ Wrong → Scan (Unit {0})
+found_of s (Ok p) = read tt (drop p s)
+found_of s (Err w) = wrong (drop w.at s)
 
 module _ {A B : Type 0} where
   abbrev pub map_scan : (A → B) → Scan A → Scan B

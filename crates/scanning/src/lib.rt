@@ -4,5 +4,5 @@
 mod lists;
 mod scanners;
 
-pub use lists::{Listed, Listing, fault_at, in_order, list_at};
-pub use scanners::{Found, Scanned, byte_at, grown, is_digit, number_at, text_at};
+pub use lists::{Listing, fault_at, in_order, list_at};
+pub use scanners::{Wrong, byte_at, grown, number_at, text_at};

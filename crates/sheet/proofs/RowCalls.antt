@@ -7,10 +7,11 @@ use Rattle.schedule.specs.Limits as Limits
 use Rattle.schedule.specs.Table.{Table, hyperperiod}
 use Rattle.schedule.specs.Servers.{Box, box_of}
 use Rattle.schedule.specs.Walk.{walked}
-use Rattle.rules.specs.declared.RowAnswer.{RowAnswer}
+use Rattle.std.specs.Prelude.{IfOk}
+use Rattle.std.proofs.lemmas.Result.{IfOk-weaker}
 use Rattle.rules.specs.Admission.{admitted, refused, admission_of}
 use Rattle.rules.specs.Answers as Rules
-use Rattle.rules.specs.Answers.{refuses, row_on, ticks_told, call_of}
+use Rattle.rules.specs.Answers.{RowAnswer, answer_in, refuses, row_on, call_of}
 use Rattle.format.specs.declared.Refusal.{Refusal}
 use Rattle.format.specs.declared.Refusal.TheVariants.{PastTheStop}
 use Rattle.schedule.proofs.Tests.{by_lt}
@@ -27,7 +28,7 @@ use Rattle.sheet.proofs.Reports.{ok}
 -- what a row call promises
 abbrev pub Promised : List ℕ → ℕ → List ℕ → List ℕ → RowAnswer → Type 0
 Promised bytes t before after x =
-    (called x.answer after ≡ call_of before (Rules.row_of bytes t)) × (x.walked ≡ ticks_told x.answer (Rules.row_ticks_of bytes t))
+    (called (answer_in x) after ≡ call_of before (Rules.row_of bytes t)) × IfOk x (λ y. y.walked ≡ Rules.row_ticks_of bytes t)
 
 module _ (bytes : List ℕ) (U : Table) (e : admission_of bytes ≡ admitted U) (t : ℕ) where
   abbrev X : Box
@@ -57,7 +58,7 @@ module _ (bytes : List ℕ) (U : Table) (e : admission_of bytes ≡ admitted U) 
     pub promised : (before after : List ℕ) (x : RowAnswer) → RowAt look (memory_of U).graph (hyperperiod U) t before after x
         → Promised bytes t before after x
     unfolding RowAt
-    promised before after x s = (s.call ∙ ap (call_of before) reply_same, s.walked ∙ ap (ticks_told x.answer) told_same)
+    promised before after x s = (s.call ∙ ap (call_of before) reply_same, IfOk-weaker x _ _ (λ y e. e ∙ told_same) s.walked)
 
 pub refused_row : (bytes : List ℕ) (instant : ℕ) (f : Refusal) → admission_of bytes ≡ refused f → Rules.row_of bytes instant ≡ refuses f
 unfolding Rules.row_of

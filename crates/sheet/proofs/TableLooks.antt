@@ -27,7 +27,8 @@ use Rattle.rows.proofs.Shown.{row_shown}
 use Rattle.repeating.specs.Moving.{no_run}
 use Rattle.looking.proofs.Looked.{end_of, stop, Looked}
 use Rattle.sheet.specs.Walks.{planned_of, walk_of_table}
-use Rattle.sheet.specs.Rows.{end_by, look_at, look_of}
+use Rattle.looking.specs.Looking.{end_by}
+use Rattle.sheet.specs.Rows.{look_at, look_of}
 use Rattle.sheet.proofs.TableWalks.{M, a, table_walked}
 
 end_of_lem : (s : Stop) → end_by (how_of s) ≡ end_of s

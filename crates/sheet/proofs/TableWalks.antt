@@ -14,7 +14,6 @@ use Rattle.schedule.specs.Limits as Limits
 use Rattle.schedule.specs.Table.{Table, Graph, hyperperiod}
 use Rattle.schedule.specs.Servers.{Box, sinks_of, box_of, whole}
 use Rattle.schedule.specs.Walk.{figure, figures}
-use Rattle.rules.specs.Admission.{admitted}
 use Rattle.schedule.specs.WellFormed.{well_formed}
 use Rattle.theorems.proofs.TableBox.{length_sinks, server_fits, sink_is}
 use Rattle.table.specs.Fresh as Fresh
@@ -22,7 +21,7 @@ use Rattle.table.specs.declared.Table.{Table as Memory}
 use Rattle.window.specs.Entries.{places}
 use Rattle.window.proofs.Loops.{replaced_length, replaced_in}
 use Rattle.reading.specs.Memory.{memory_of}
-use Rattle.admission.specs.Admission.{coded_admission}
+use Rattle.sheet.specs.Walks.{admitted_of}
 use Rattle.admission.specs.declared.admitting.Admitted.{Admitted}
 use Rattle.planning.specs.Plans.{plan_of}
 use Rattle.planning.specs.Offsets.{offsets_of}
@@ -33,6 +32,7 @@ use Rattle.planning.proofs.Memory.{coded_graph}
 use Rattle.planning.proofs.NodeFits.{few, room, laid}
 use Rattle.planning.proofs.Fits.{plan_fits, offsets_sized, offsets_fit, largest_fits}
 use Rattle.planning.proofs.Boundaries.{hyper_some, last_boundary}
+use Rattle.table.specs.declared.Seen.{Seen}
 use Rattle.window.specs.declared.Walk.{Walk}
 use Rattle.window.specs.Walking.{walk_of}
 use Rattle.window.proofs.Walked.{stop, AtStop, BeforeStop, walked_is}
@@ -54,7 +54,7 @@ module _ (U : Table) (ok : T (well_formed U)) (short : hyperperiod U ≤ (Limits
   M = memory_of U
 
   abbrev pub a : Admitted
-  a = coded_admission (admitted U)
+  a = admitted_of U
 
   rounds_are : M.rounds ≡ X.rounds
   rounds_are = rounds_stay U.graphs (Fresh.empty_table U.processors U.rounds)
@@ -74,7 +74,7 @@ module _ (U : Table) (ok : T (well_formed U)) (short : hyperperiod U ≤ (Limits
   pub few_graphs : M.graphs ≤ (Limits.graphs).to
   few_graphs = omega (arith, graphs_are, few U ok)
 
-  abbrev Came : ℕ → Walk → Type 0
+  abbrev Came : ℕ → Walk Seen → Type 0
   Came asked w = (((stop X).ticks ≤ asked) × AtStop X w) ⊎ ((asked < (stop X).ticks) × BeforeStop X asked w)
 
   pub table_walked : (asked : ℕ)

@@ -1,19 +1,14 @@
 -- The row call in memory: what a walk shows, what is answered of it, and what is told. For the proof, not for belief.
-use Rattle.std.specs.Prelude.{◌≡◌, List, ℕ, ◌+◌, ◌*◌, ◌≤◌}
+use Rattle.std.specs.Prelude.{◌≡◌, List, ℕ, ◌+◌, ◌*◌, ◌≤◌, IfOk}
 use Rattle.schedule.specs.Limits as Limits
-use Rattle.rules.specs.declared.Answer.{Answer}
-use Rattle.rules.specs.declared.RowAnswer.{RowAnswer}
-use Rattle.rules.specs.Answers.{Reply, ticks_told, call_of}
+use Rattle.rules.specs.Answers.{RowAnswer, answer_in, Reply, call_of}
 use Rattle.table.specs.declared.Graph.{Graph}
-use Rattle.window.specs.declared.How.{How}
-use Rattle.window.specs.declared.How.TheVariants as How
+use Rattle.table.specs.declared.Seen.{Seen}
 use Rattle.window.specs.declared.Walk.{Walk}
 use Rattle.window.specs.Walking.{walk_of}
 use Rattle.rows.specs.Showing.{row_of}
-use Rattle.looking.specs.declared.End.{End}
-use Rattle.looking.specs.declared.End.TheVariants as End
 use Rattle.looking.specs.declared.Look.{Look}
-use Rattle.looking.specs.Looking.{reply_within, ticks_at}
+use Rattle.looking.specs.Looking.{end_by, reply_within, ticks_at}
 use Rattle.sheet.specs.declared.plans.Laid.{Laid}
 use Rattle.sheet.specs.Calls.{called}
 
@@ -24,26 +19,17 @@ Ready p =
     × (p.origin + p.rounds * p.hyperperiod ≤ (Limits.offset).to + (Limits.rounds).to * (Limits.hyperperiod).to)
     × (1 ≤ p.hyperperiod)
 
-abbrev pub end_by : How → End
-end_by (How.Settled k) = End.Settled
-end_by How.Unsettled = End.Stopped
-end_by How.Backlog = End.Stopped
-end_by How.Reached = End.Reached
-
 -- what a walk shows, and what the walk to an instant does
-abbrev pub look_at : Laid → Walk → Look
+abbrev pub look_at : Laid → Walk Seen → Look
 look_at p w = record { end = end_by w.how; ticks = w.ticks; row = row_of p.plan p.offsets w.state }
 
 unfoldable pub look_of : Laid → ℕ → Look
 look_of p asked = look_at p (walk_of p.plan p.offsets p.origin p.hyperperiod p.rounds asked)
 
-abbrev pub told_with : Answer → ℕ → RowAnswer
-told_with answer ticks = record { answer = answer; walked = ticks_told answer ticks }
-
--- what is answered and left of a reply, with the ticks walked for it
+-- what is answered and left of a reply; beside a text, the ticks walked for it
 pub record Answered (reply : Reply) (ticks : ℕ) (before after : List ℕ) (r : RowAnswer) : Type 0 where
-  pub call : called r.answer after ≡ call_of before reply
-  pub walked : r.walked ≡ ticks_told r.answer ticks
+  pub call : called (answer_in r) after ≡ call_of before reply
+  pub walked : IfOk r (λ x. x.walked ≡ ticks)
 
 -- of an engine's looks
 unfoldable pub RowAt : (ℕ → Look) → List Graph → (hyper t : ℕ) → List ℕ → List ℕ → RowAnswer → Type 0

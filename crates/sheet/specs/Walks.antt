@@ -1,12 +1,16 @@
 -- The walk of a table in memory: what `planned` gives it, what it computes, and when. For the proof, not for belief.
-use Rattle.std.specs.Prelude.{ℕ, ◌+◌, ◌*◌, ◌≤◌}
+use Rattle.std.specs.Prelude.{ℕ, ◌+◌, ◌*◌, ◌≤◌, Result, Ok, Err}
 use Rattle.schedule.specs.Limits as Limits
+use Rattle.schedule.specs.Table.{Table, hyperperiod}
 use Rattle.schedule.specs.Walk.{Stop, settled, unsettled, backlog}
+use Rattle.reading.specs.Memory.{memory_of}
+use Rattle.format.specs.declared.Refusal.{Refusal}
 use Rattle.admission.specs.declared.admitting.Admitted.{Admitted}
 use Rattle.planning.specs.Plans.{plan_of}
 use Rattle.planning.specs.Offsets.{offsets_of, largest_offset_of}
 use Rattle.window.specs.declared.How.{How}
 use Rattle.window.specs.declared.How.TheVariants.{Settled, Unsettled, Backlog, Reached}
+use Rattle.table.specs.declared.Seen.{Seen}
 use Rattle.window.specs.declared.Walk.{Walk}
 use Rattle.window.specs.Walking.{walk_of}
 use Rattle.sheet.specs.declared.plans.Laid.{Laid}
@@ -22,8 +26,16 @@ planned_of a =
       rounds = a.table.rounds;
       graphs = a.table.graphs;
       graph = a.table.graph;
-      verdict = a.verdict;
     }
+
+-- of one that is admitted, or its refusal
+abbrev pub planned_by : Result Admitted Refusal → Result Laid Refusal
+planned_by (Ok a) = Ok (planned_of a)
+planned_by (Err r) = Err r
+
+-- an admitted table in memory, with its hyperperiod
+abbrev pub admitted_of : Table → Admitted
+admitted_of T = record { table = memory_of T; hyperperiod = hyperperiod T }
 
 -- what the walk asks of a table
 pub record Walkable (a : Admitted) : Type 0 where
@@ -31,7 +43,7 @@ pub record Walkable (a : Admitted) : Type 0 where
   pub in_time : largest_offset_of a.table + a.table.rounds * a.hyperperiod ≤ (Limits.offset).to + (Limits.rounds).to * (Limits.hyperperiod).to
   pub hyper_some : 1 ≤ a.hyperperiod
 
-unfoldable pub walk_of_table : Admitted → ℕ → Walk
+unfoldable pub walk_of_table : Admitted → ℕ → Walk Seen
 walk_of_table a asked =
     walk_of (plan_of a.table) (offsets_of a.table) (largest_offset_of a.table) a.hyperperiod a.table.rounds asked
 
@@ -41,3 +53,9 @@ stop_of (Settled k) = settled k
 stop_of Unsettled = unsettled
 stop_of Backlog = backlog
 stop_of Reached = unsettled
+
+-- the round of a walk that settled, or refusal 7 or 8
+abbrev pub round_in : Stop → Result ℕ Refusal
+round_in (settled k) = Ok k
+round_in unsettled = Err Refusal.Unsettled
+round_in backlog = Err Refusal.Backlog

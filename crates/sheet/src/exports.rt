@@ -2,7 +2,7 @@
 ghost use Rattle.std.specs.Prelude.{◌≡◌};
 ghost use Rattle.rules.specs.Answers.{report_of, row_of, row_ticks_of, call_of};
 ghost use Rattle.rules.specs.Demands.{TrueReport};
-ghost use Rattle.sheet.specs.Exports.{told_of, Told, told_row, ToldRow};
+ghost use Rattle.sheet.specs.Exports.{Told, ToldRow};
 
 use crate::reporting::report;
 use crate::rowing::row;
@@ -29,22 +29,26 @@ pub struct PhalandrixRowAnswer {
     pub length: usize,
 }
 
-pub fn told(a: Answer) -> PhalandrixAnswer
-    ensures { result ≡ told_of a }
-{
-    match a {
-        Answer::Text(n) => PhalandrixAnswer {
-            number: 0,
-            line: 0,
-            column: 0,
-            length: n,
-        },
-        Answer::Refused(f) => PhalandrixAnswer {
-            number: writing::number_of(f),
-            line: writing::line_of(f),
-            column: writing::column_of(f),
-            length: 0,
-        },
+impl From<Answer> for PhalandrixAnswer {
+    ghost use Rattle.sheet.specs.Exports.{told_of};
+
+    ghost from_gives = { λ a p. p ≡ told_of a };
+
+    fn from(answer: Answer) -> PhalandrixAnswer {
+        match answer {
+            Ok(length) => PhalandrixAnswer {
+                number: 0,
+                line: 0,
+                column: 0,
+                length,
+            },
+            Err(f) => PhalandrixAnswer {
+                number: writing::number_of(f),
+                line: writing::line_of(f),
+                column: writing::column_of(f),
+                length: 0,
+            },
+        }
     }
 }
 
@@ -52,25 +56,32 @@ pub fn phalandrix_report(table: &[u8], buffer: &mut [u8]) -> PhalandrixAnswer
     ensures call { Told result buffer.new (call_of buffer.old (report_of table.now)) }
     ensures least_true { result.number ≡ 0 → TrueReport table.now }
 {
-    told(report(table, buffer))
+    PhalandrixAnswer::from(report(table, buffer))
 }
 
-pub fn told_row(a: RowAnswer) -> PhalandrixRowAnswer
-    ensures { result ≡ told_row a.answer a.walked }
-{
-    let answer = a.answer;
-    let t = told(answer);
-    PhalandrixRowAnswer {
-        number: t.number,
-        line: t.line,
-        column: t.column,
-        walked: a.walked,
-        length: t.length,
+impl From<RowAnswer> for PhalandrixRowAnswer {
+    ghost use Rattle.sheet.specs.Exports.{told_row_of};
+
+    ghost from_gives = { λ a p. p ≡ told_row_of a };
+
+    fn from(answer: RowAnswer) -> PhalandrixRowAnswer {
+        let walked = match answer {
+            Ok(text) => text.walked,
+            Err(_) => 0,
+        };
+        let told = PhalandrixAnswer::from(answer.map(|text| text.length));
+        PhalandrixRowAnswer {
+            number: told.number,
+            line: told.line,
+            column: told.column,
+            walked,
+            length: told.length,
+        }
     }
 }
 
 pub fn phalandrix_row(table: &[u8], instant: u64, buffer: &mut [u8]) -> PhalandrixRowAnswer
     ensures { ToldRow result buffer.new (call_of buffer.old (row_of table.now instant)) (row_ticks_of table.now instant) }
 {
-    told_row(row(table, instant, buffer))
+    PhalandrixRowAnswer::from(row(table, instant, buffer))
 }

@@ -8,25 +8,17 @@ use table::{Graph, Table};
 pub fn sink_of(g: Graph) -> usize
     ensures { result ≡ Mirror.sink_of g }
 {
-    if Table::SERVERS < g.first {
+    if Table::SERVERS < g.first || Table::SERVERS < g.nodes {
         return 0;
     }
-    if Table::SERVERS < g.nodes {
-        return 0;
-    }
-    let end = g.first + g.nodes;
-    if end == 0 { 0 } else { end - 1 }
+    (g.first + g.nodes).saturating_sub(1)
 }
 
 // The largest response at a place; 0 where there is no such place.
 pub fn worst_at(worst: &[u32; Table::SERVERS], i: usize) -> u32
     ensures { result ≡ Mirror.worst_at worst.now i }
 {
-    if i < Table::SERVERS {
-        let figure = worst[i];
-        return figure;
-    }
-    0
+    worst.get(i).copied().unwrap_or(0)
 }
 
 pub fn figures_of(
@@ -36,10 +28,8 @@ pub fn figures_of(
     ensures { result ≡ Mirror.figures_in graph worst }
 {
     let mut f = [0u32; Table::GRAPHS];
-    let mut g: usize = 0;
-    while g < Table::GRAPHS {
+    for g in 0..Table::GRAPHS {
         f[g] = worst_at(&worst, sink_of(graph[g]));
-        g += 1;
     }
     f
 }

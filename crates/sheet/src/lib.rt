@@ -7,10 +7,8 @@ mod plans;
 mod reporting;
 mod rowing;
 
-pub use exports::{
-    PhalandrixAnswer, PhalandrixRowAnswer, phalandrix_report, phalandrix_row, told, told_row,
-};
+pub use exports::{PhalandrixAnswer, PhalandrixRowAnswer, phalandrix_report, phalandrix_row};
 pub use figures::figures_of;
 pub use plans::{Laid, planned};
-pub use reporting::{put_settled, report};
-pub use rowing::{put_row, row, told_with};
+pub use reporting::{put_settled, report, round_of};
+pub use rowing::{put_row, row};

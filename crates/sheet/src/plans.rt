@@ -2,13 +2,13 @@
 ghost use Rattle.std.specs.Prelude.{◌≡◌};
 ghost use Rattle.rules.specs.Admission.{admission_of};
 ghost use Rattle.admission.specs.Admission.{coded_admission};
-ghost use Rattle.sheet.specs.Walks.{planned_of};
+ghost use Rattle.sheet.specs.Walks.{planned_by};
 
-use admission::Verdict;
+use format::Refusal;
 use table::{Graph, Table};
 use window::Plan;
 
-// What the walk asks for, the graphs for the figures, and whether the table passed. Of a refused one it is what the empty table has.
+// What the walk asks for, and the graphs for the figures.
 #[derive(Clone, Copy)]
 pub struct Laid {
     pub plan: Plan,
@@ -18,17 +18,15 @@ pub struct Laid {
     pub rounds: u32,
     pub graphs: usize,
     pub graph: [Graph; Table::GRAPHS],
-    pub verdict: Verdict,
 }
 
-pub fn planned(table: &[u8]) -> Laid
-    ensures { result ≡ planned_of (coded_admission (admission_of table.now)) }
+pub fn planned(table: &[u8]) -> Result<Laid, Refusal>
+    ensures { result ≡ planned_by (coded_admission (admission_of table.now)) }
 {
-    let a = admission::admit(table);
+    let a = admission::admit(table)?;
     let t = a.table;
     let graph = t.graph;
-    let verdict = a.verdict;
-    Laid {
+    Ok(Laid {
         plan: planning::plan_of(t),
         offsets: planning::offsets_of(t),
         origin: planning::largest_offset(t),
@@ -36,6 +34,5 @@ pub fn planned(table: &[u8]) -> Laid
         rounds: t.rounds,
         graphs: t.graphs,
         graph,
-        verdict,
-    }
+    })
 }

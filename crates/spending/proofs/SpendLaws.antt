@@ -1,24 +1,32 @@
--- The ticks of a span; one more of those that run: the least budget left, and the ticks used.
-use mathlib.Core.Path.{◌≡◌}
+-- One more of those that run: the least budget left, and the ticks used.
+use mathlib.Core.Path.{◌≡◌, ◌∙◌}
 use mathlib.Core.List.{List}
 use Prim.Native.Nat.{ℕ, ◌+◌, ◌-◌, ◌≤◌, ◌<◌, min}
 use native.Mathlib.Numerals.{add-one}
+use native.Mathlib.Omega.{arith}
 use lib.ListN.{get_or, set}
 use borrow.Author.Tests.{lt-ltb, le-ltb}
-use Rattle.window.specs.Spending.{ticks_to, place_at, lesser, least_left, spent}
+use Rattle.schedule.proofs.Tests.{by_lt}
+use Rattle.window.specs.Spending.{place_at, lesser, least_left, spent}
 
-module _ (t release boundary asked first to : ℕ) (f : first ≡ min release boundary) (e : to ≡ min first asked) where
-  pub ticks_before : t < to → to - t ≡ ticks_to t release boundary asked
-  ticks_before h = rw (← f, ← e, lt-ltb t to h)
+-- a budget left that counts, and one that is passed over
+lesser_some : (x least : ℕ) → 0 < x → min least x ≡ lesser x least
+lesser_some x least h =
+    by_lt x least (λ l. rw (lt-ltb 0 x h, lt-ltb x least l) (omega arith)) (λ l. rw (lt-ltb 0 x h, le-ltb x least l) (omega arith))
 
-  pub ticks_past : to ≤ t → ◌≡◌ {A = ℕ} 1 (ticks_to t release boundary asked)
-  ticks_past h = rw (← f, ← e, le-ltb t to h)
+lesser_none : (x least : ℕ) → x ≤ 0 → least ≡ lesser x least
+lesser_none x least h = rw (le-ltb 0 x h)
 
 module _ (left at : List ℕ) (r k : ℕ) (p : k ≡ place_at at r) where
-  pub least_more : (most : ℕ) {least x : ℕ} → least ≡ least_left left at most r → x ≡ lesser (get_or left k 0) least → x ≡ least_left left at most (r + 1)
-  unfolding least_left
-  least_more most e f = rw (add-one r, ← e, ← p) f
+  module _ (most : ℕ) {least : ℕ} (e : least ≡ least_left left at most r) where
+    pub least_more : {u v x : ℕ} → u ≡ v → v ≡ min least x → x ≡ get_or left k 0 → 0 < get_or left k 0 → u ≡ least_left left at most (r + 1)
+    unfolding least_left
+    least_more f g x s = f ∙ g ∙ rw (x, add-one r, ← e, ← p) (lesser_some (get_or left k 0) least s)
 
-  pub spent_more : (d : ℕ) {u : List ℕ} {x : ℕ} → u ≡ spent left at d r → x ≡ get_or u k 0 - d → set u k x ≡ spent left at d (r + 1)
+    pub least_same : {u : ℕ} → u ≡ least → get_or left k 0 ≤ 0 → u ≡ least_left left at most (r + 1)
+    unfolding least_left
+    least_same f s = f ∙ rw (add-one r, ← e, ← p) (lesser_none (get_or left k 0) least s)
+
+  pub spent_more : (d : ℕ) {u : List ℕ} {x y : ℕ} → u ≡ spent left at d r → y ≡ get_or u k 0 → x ≡ y - d → set u k x ≡ spent left at d (r + 1)
   unfolding spent
-  spent_more d e f = rw (add-one r, ← e, ← p, f)
+  spent_more d e y f = rw (add-one r, ← e, ← p, f, y)

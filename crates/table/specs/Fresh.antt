@@ -1,10 +1,10 @@
 -- A table with no graph, an empty server, and the state at instant 0, in the form of the code's structs.
-use Rattle.std.specs.Prelude.{false, List, ℕ, ◌*◌, ◌-◌, ◌^◌, replicate}
+use Rattle.std.specs.Prelude.{None, List, ℕ, ◌*◌, ◌-◌, ◌^◌, replicate}
+use Rattle.table.specs.declared.Pending.{Pending}
 use Rattle.schedule.specs.Limits as Rules
 use Rattle.table.specs.declared.Table.{Table}
 use Rattle.table.specs.declared.Graph.{Graph}
 use Rattle.table.specs.declared.Node.{Node}
-use Rattle.table.specs.declared.Pending.{Pending}
 use Rattle.table.specs.declared.Server.{Server}
 use Rattle.table.specs.declared.State.{State}
 
@@ -27,7 +27,7 @@ empty_table p r =
     }
 
 abbrev pub no_job : Pending
-no_job = record { behind = 0; linked = false }
+no_job = record { behind = None }
 
 abbrev pub empty_server : Server
 empty_server = record { jobs = replicate Rules.pending no_job }

@@ -1,13 +1,17 @@
--- A key of the rules in the form of the code's struct: its name filled up with zeros, and the name's length.
-use Rattle.std.specs.Prelude.{◌++◌, ℕ, length, take, replicate}
+-- The place of a key in the rules' list.
+use Rattle.std.specs.Prelude.{ℕ}
 use Rattle.format.specs.Keys as Rules
 use Rattle.table.specs.declared.Key.{Key}
-use Rattle.table.specs.Limits.{coded}
+use Rattle.table.specs.declared.Key.TheVariants.{Processors, Rounds, Graphs, Period, Offset, Nodes, Budget, Level, After, Limit}
 
--- the longest name's length
-abbrev pub name_length : ℕ
-name_length = 10
-
-abbrev pub coded_key : Rules.Key → Key
-coded_key k =
-    record { name = take name_length (k.name ++ replicate name_length 0); length = length k.name; range = coded k.range }
+abbrev pub place : Key → ℕ
+place Processors = Rules.processors
+place Rounds = Rules.rounds
+place Graphs = Rules.graphs
+place Period = Rules.period
+place Offset = Rules.offset
+place Nodes = Rules.nodes
+place Budget = Rules.budget
+place Level = Rules.level
+place After = Rules.after
+place Limit = Rules.limit

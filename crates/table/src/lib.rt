@@ -4,8 +4,8 @@
 
 ghost use Rattle.std.specs.Prelude.{◌≡◌};
 ghost use Rattle.format.specs.Keys.{key_at};
-ghost use Rattle.table.specs.Limits.{limits};
-ghost use Rattle.table.specs.Keys.{coded_key};
+ghost use Rattle.table.specs.Limits.{coded, limits, in_range};
+ghost use Rattle.table.specs.Keys.{place};
 ghost use Rattle.table.specs.Fresh.{empty_table, empty_server, fresh_state};
 
 // From and to, both allowed.
@@ -13,6 +13,14 @@ ghost use Rattle.table.specs.Fresh.{empty_table, empty_server, fresh_state};
 pub struct Range {
     pub from: u32,
     pub to: u32,
+}
+
+impl Range {
+    pub fn contains(self, v: u32) -> bool
+        ensures { result ≡ in_range self v }
+    {
+        self.from <= v && v <= self.to
+    }
 }
 
 #[derive(Clone, Copy)]
@@ -37,12 +45,48 @@ pub struct Limits {
     pub limit: Range,
 }
 
-// A key: its name, filled up with zeros, the name's length, and the limits of its number (of `after`, of each number of its list).
+// The nine keys in the order in which they stand, and behind them that of a limit text (document 02, R-12).
+#[derive(Clone, Copy, PartialEq, Eq)]
+pub enum Key {
+    Processors,
+    Rounds,
+    Graphs,
+    Period,
+    Offset,
+    Nodes,
+    Budget,
+    Level,
+    After,
+    Limit,
+}
+
+// What the table of the keys has of one: its name, and the limits of its number (of `after`, of each number of its list).
 #[derive(Clone, Copy)]
-pub struct Key {
-    pub name: [u8; Table::NAME_LENGTH],
-    pub length: usize,
-    pub range: Range,
+struct Entry {
+    name: &'static [u8],
+    range: Range,
+}
+
+impl Key {
+    // Lent out of the constant: to copy an entry out of it, the compiler would build the whole table first.
+    fn entry(self) -> &'static Entry
+        ensures name { result.now.name.now ≡ (key_at (place self)).name }
+        ensures range { result.now.range ≡ coded (key_at (place self)).range }
+    {
+        &Table::KEYS[self as usize]
+    }
+
+    pub fn name(self) -> &'static [u8]
+        ensures { result.now ≡ (key_at (place self)).name }
+    {
+        self.entry().name
+    }
+
+    pub fn range(self) -> Range
+        ensures { result ≡ coded (key_at (place self)).range }
+    {
+        self.entry().range
+    }
 }
 
 // A node: bit p - 1 of `after` is set for each predecessor p.
@@ -74,10 +118,9 @@ pub struct Table {
 }
 
 // A pending server job: where it is linked, by how many numbers the job lies behind it. Its budget left stands in `State`.
-#[derive(Clone, Copy)]
+#[derive(Clone, Copy, PartialEq)]
 pub struct Pending {
-    pub behind: u8,
-    pub linked: bool,
+    pub behind: Option<u8>,
 }
 
 // A server's window: its pending server jobs, the oldest first, shifted as the oldest complete.
@@ -88,8 +131,8 @@ pub struct Server {
 
 // What a walk keeps. For each server, by its place: the window; the budget left of each pending server job, at place × WINDOW + slot; the key
 // of the oldest, NO_KEY where none is pending; how many are pending; the two counts of document 01's state; the largest response of its
-// jobs so far; and the instant of its next release, so that nothing has to be counted down. All but the windows stands in arrays of numbers, since those can be
-// lent, and an array of structs cannot.
+// jobs so far; and the instant of its next release, so that nothing has to be counted down. All but the windows stands in arrays of numbers by
+// place, since the walk looks at one of these for all places at a time.
 #[derive(Clone, Copy)]
 pub struct State {
     pub servers: [Server; Table::SERVERS],
@@ -207,87 +250,73 @@ impl Table {
     // No server job has this key.
     pub const NO_KEY: u32 = u32::MAX;
 
-    // The nine keys in the order in which they stand, and behind them that of a limit text (document 02, R-12).
-    pub const NAME_LENGTH: usize = 10;
-
-    pub const KEY_COUNT: usize = 10;
-
-    const KEYS: [Key; Table::KEY_COUNT] = [
-        Key {
-            name: *b"processors",
-            length: 10,
+    // By the order of the keys.
+    const KEYS: [Entry; 10] = [
+        Entry {
+            name: b"processors",
             range: Range {
                 from: Table::PROCESSORS_FROM,
                 to: Table::PROCESSORS_TO,
             },
         },
-        Key {
-            name: *b"rounds\0\0\0\0",
-            length: 6,
+        Entry {
+            name: b"rounds",
             range: Range {
                 from: Table::ROUNDS_FROM,
                 to: Table::ROUNDS_TO,
             },
         },
-        Key {
-            name: *b"graphs\0\0\0\0",
-            length: 6,
+        Entry {
+            name: b"graphs",
             range: Range {
                 from: Table::GRAPHS_FROM,
                 to: Table::GRAPHS_TO,
             },
         },
-        Key {
-            name: *b"period\0\0\0\0",
-            length: 6,
+        Entry {
+            name: b"period",
             range: Range {
                 from: Table::PERIOD_FROM,
                 to: Table::PERIOD_TO,
             },
         },
-        Key {
-            name: *b"offset\0\0\0\0",
-            length: 6,
+        Entry {
+            name: b"offset",
             range: Range {
                 from: Table::OFFSET_FROM,
                 to: Table::OFFSET_TO,
             },
         },
-        Key {
-            name: *b"nodes\0\0\0\0\0",
-            length: 5,
+        Entry {
+            name: b"nodes",
             range: Range {
                 from: Table::NODES_FROM,
                 to: Table::NODES_TO,
             },
         },
-        Key {
-            name: *b"budget\0\0\0\0",
-            length: 6,
+        Entry {
+            name: b"budget",
             range: Range {
                 from: Table::BUDGET_FROM,
                 to: Table::BUDGET_TO,
             },
         },
-        Key {
-            name: *b"level\0\0\0\0\0",
-            length: 5,
+        Entry {
+            name: b"level",
             range: Range {
                 from: Table::LEVEL_FROM,
                 to: Table::LEVEL_TO,
             },
         },
-        Key {
-            name: *b"after\0\0\0\0\0",
-            length: 5,
+        Entry {
+            name: b"after",
             range: Range {
                 from: Table::PREDECESSOR_FROM,
                 to: Table::PREDECESSOR_TO,
             },
         },
-        Key {
-            name: *b"limit\0\0\0\0\0",
-            length: 5,
+        Entry {
+            name: b"limit",
             range: Range {
                 from: Table::LIMIT_FROM,
                 to: Table::LIMIT_TO,
@@ -369,31 +398,6 @@ impl Table {
         }
     }
 
-    // Key number k, from 0; past the last one a key without a name. At a constant index the compiler takes the one entry and does not
-    // build the table.
-    pub fn key(k: usize) -> Key
-        ensures { result ≡ coded_key (key_at k) }
-    {
-        let keys = Table::KEYS;
-        match k {
-            0 => keys[0],
-            1 => keys[1],
-            2 => keys[2],
-            3 => keys[3],
-            4 => keys[4],
-            5 => keys[5],
-            6 => keys[6],
-            7 => keys[7],
-            8 => keys[8],
-            9 => keys[9],
-            _ => Key {
-                name: [0u8; Table::NAME_LENGTH],
-                length: 0,
-                range: Range { from: 0, to: 0 },
-            },
-        }
-    }
-
     // A table with no graph.
     pub fn empty(processors: u32, rounds: u32) -> Table
         ensures { result ≡ empty_table processors rounds }
@@ -423,12 +427,8 @@ impl Table {
     pub fn empty_server() -> Server
         ensures { result ≡ empty_server }
     {
-        let p = Pending {
-            behind: 0,
-            linked: false,
-        };
         Server {
-            jobs: [p; Table::WINDOW],
+            jobs: [Pending { behind: None }; Table::WINDOW],
         }
     }
 

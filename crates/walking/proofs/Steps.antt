@@ -14,59 +14,34 @@ use Rattle.table.specs.Fresh.{fresh_state}
 use Rattle.window.specs.declared.Plan.{Plan}
 use Rattle.window.specs.Entries.{further, nodes_of}
 use Rattle.window.specs.Releasing.{earliest, any_full, released, released_at}
-use Rattle.window.specs.Comparing.{same_counts, same_phases, same_left, same_numbers, same_windows, same_states, keep}
+use Rattle.window.specs.Comparing.{same_states, keep}
 use Rattle.window.specs.Working.{span_of, worked}
 use Rattle.window.specs.declared.How.TheVariants.{Settled, Unsettled, Backlog, Reached}
+use Rattle.table.specs.declared.Seen.{Seen}
 use Rattle.window.specs.declared.Walk.{Walk}
 use Rattle.window.specs.Walking.{ended, kept_of, walk_from, walk_of}
 
-abbrev pub numbers : State → Kept → (hyper n : ℕ) → Bool
-numbers st kept hyper n =
-    same_numbers st.count kept.count st.unfinished kept.unfinished st.unlinked kept.unlinked st.next kept.next st.left
-    kept.left hyper n
-
-abbrev pub windows : State → Kept → ℕ → Bool
-windows st kept n = same_windows st.servers kept.servers st.count n
-
-and_in : (a b c d e f : Bool) → ((a && (b && (c && (d && e)))) && f) ≡ (a && (b && (c && (d && (e && f)))))
-and_in true true true true e f = refl
-and_in true true true false e f = refl
-and_in true true false d e f = refl
-and_in true false c d e f = refl
-and_in false b c d e f = refl
-
-both_parts : (st : State) (kept : Kept) (hyper n : ℕ) → (numbers st kept hyper n && windows st kept n) ≡ same_states st kept hyper n
-both_parts st kept hyper n =
-    and_in (same_counts st.count kept.count n) (same_counts st.unfinished kept.unfinished n) (same_counts st.unlinked kept.unlinked n)
-    (same_phases st.next kept.next hyper n) (same_left st.left kept.left st.count n) (windows st kept n)
-
 -- `left` events at most are left after this one
 module _ (plan : Plan) (hyper rounds asked left t boundary round n : ℕ) (st : State) (kept : Kept) (same : n ≡ nodes_of plan) where
-  abbrev here : Walk
+  abbrev here : Walk Seen
   here = walk_from plan hyper rounds asked (suc left) t boundary round st kept
 
   -- the boundary's state is another than the one before, or there is none before
   abbrev pub Differs : Type 0
   Differs = (ltb 0 round && same_states st kept hyper (nodes_of plan)) ≡ false
 
-  pub differs_windows : 0 < round → {x y : Bool} → x ≡ numbers st kept hyper n → x ≡ true → y ≡ windows st kept n → y ≡ false → Differs
-  differs_windows p e f g h =
-      let whole : same_states st kept hyper n ≡ false = sym (both_parts st kept hyper n) ∙ rw (sym e ∙ f) (sym g ∙ h) in
-      rw (lt-ltb 0 round p) (rw same at whole)
-
-  pub differs_numbers : 0 < round → {x : Bool} → x ≡ numbers st kept hyper n → x ≡ false → Differs
-  differs_numbers p e f =
-      let whole : same_states st kept hyper n ≡ false = sym (both_parts st kept hyper n) ∙ rw (sym e ∙ f) in
+  pub differs_states : 0 < round → {x : Bool} → x ≡ same_states st kept hyper n → x ≡ false → Differs
+  differs_states p e f =
+      let whole : same_states st kept hyper n ≡ false = sym e ∙ f in
       rw (lt-ltb 0 round p) (rw same at whole)
 
   pub differs_first : round ≤ 0 → Differs
   differs_first h = rw (le-ltb 0 round h)
 
-  pub settles : t ≡ boundary → 0 < round → {x y : Bool} → x ≡ numbers st kept hyper n → x ≡ true → y ≡ windows st kept n → y ≡ true
-      → here ≡ ended (Settled round) t st
+  pub settles : t ≡ boundary → 0 < round → {x : Bool} → x ≡ same_states st kept hyper n → x ≡ true → here ≡ ended (Settled round) t st
   unfolding walk_from
-  settles e p f g h k =
-      let whole : same_states st kept hyper n ≡ true = sym (both_parts st kept hyper n) ∙ rw (sym f ∙ g) (sym h ∙ k) in
+  settles e p f g =
+      let whole : same_states st kept hyper n ≡ true = sym f ∙ g in
       rw (eq-eqb t boundary e, lt-ltb 0 round p, rw same at whole)
 
   pub ends_unsettled : t ≡ boundary → Differs → round ≡ rounds → here ≡ ended Unsettled t st
@@ -139,13 +114,13 @@ module _ (plan : Plan) (hyper rounds asked left t boundary round n : ℕ) (st : 
           rw (p.no_settling, p.no_end, g.no_backlog, ne_eqb t asked e, w, s, g.is_released, p.boundary_is, p.round_is, p.kept_is)
 
 -- what is left of a whole walk at an instant t, in some number of events that is enough
-pub record Remains (plan : Plan) (hyper rounds asked last : ℕ) (whole : Walk) (t boundary round : ℕ) (st : State) (kept : Kept) : Type 0 where
+pub record Remains (plan : Plan) (hyper rounds asked last : ℕ) (whole : Walk Seen) (t boundary round : ℕ) (st : State) (kept : Kept) : Type 0 where
   pub events : ℕ
   pub same : whole ≡ walk_from plan hyper rounds asked events t boundary round st kept
   pub enough : last < t + events
 
 -- not past the last boundary, one event at least
-module _ (plan : Plan) (hyper rounds asked last : ℕ) (whole : Walk) (t boundary round : ℕ) (st : State) (kept : Kept)
+module _ (plan : Plan) (hyper rounds asked last : ℕ) (whole : Walk Seen) (t boundary round : ℕ) (st : State) (kept : Kept)
     (r : Remains plan hyper rounds asked last whole t boundary round st kept) (l : t ≤ last) where
   some : (f : ℕ) → f ≡ r.events → (left : ℕ) × (r.events ≡ suc left)
   some zero e = absurd (omega (arith, r.enough))
@@ -165,18 +140,7 @@ module _ (plan : Plan) (hyper rounds asked last : ℕ) (whole : Walk) (t boundar
   one_more_lem {d} h e = record { events = after; same = from_here ∙ e; enough = omega (arith, r.enough, (some r.events refl).1) }
 
 -- the whole walk, from the fresh state
-pub from_start : (plan : Plan) (offsets : List ℕ) (origin hyper rounds asked : ℕ) (fresh : State) → fresh ≡ fresh_state offsets
-    → walk_of plan offsets origin hyper rounds asked
-    ≡ walk_from plan hyper rounds asked (suc (origin + rounds * hyper)) 0 origin 0
-    (record {
-      servers = fresh.servers;
-      left = fresh.left;
-      first = fresh.first;
-      count = fresh.count;
-      unfinished = fresh.unfinished;
-      unlinked = fresh.unlinked;
-      worst = fresh.worst;
-      next = fresh.next;
-    }) (kept_of fresh)
+pub from_start : (plan : Plan) (offsets : List ℕ) (origin hyper rounds asked : ℕ) (fresh : State) (kept : Kept) → fresh ≡ fresh_state offsets → kept ≡ kept_of fresh
+    → walk_of plan offsets origin hyper rounds asked ≡ walk_from plan hyper rounds asked (suc (origin + rounds * hyper)) 0 origin 0 fresh kept
 unfolding walk_of
-from_start plan offsets origin hyper rounds asked fresh e = rw e
+from_start plan offsets origin hyper rounds asked fresh kept e k = rw (k, e)

@@ -10,6 +10,7 @@ use native.Mathlib.Omega.{arith}
 use lib.Dec.{T, eqb, eqb→eq}
 use lib.ListN.{length}
 use borrow.Author.Tests.{eq-eqb, ne_eqb}
+use Rattle.table.specs.declared.Pending.{Pending}
 use Rattle.schedule.specs.Lists.{all?, alike, tab, same_option}
 use Rattle.schedule.specs.Servers.{Server, srv, Box, whole}
 use Rattle.schedule.specs.ServerJobs.{used}
@@ -18,7 +19,7 @@ use Rattle.schedule.specs.State as Rules
 use Rattle.schedule.specs.State.{same_node, same_state, phase, state, state_at}
 use Rattle.schedule.proofs.Tests.{and_l, and_r, and_i, by_lt, bool_ext, eq→eqb}
 use Rattle.theorems.proofs.Window.{node_at}
-use Rattle.table.specs.declared.Pending.{Pending}
+use Rattle.std.specs.Prelude.{is_some, unwrap_or}
 use Rattle.table.specs.declared.State.{State}
 use Rattle.table.specs.declared.Kept.{Kept}
 use Rattle.window.specs.declared.Plan.{Plan}
@@ -61,9 +62,9 @@ alike_map f g [] = refl
 alike_map f g (x ∷ xs) = ap (λ (b : Bool). eqb (f x) (g x) && b) (alike_map f g xs)
 
 -- an unlinked slot lies 0 behind, so the engine may compare what it does not mean
-same_behind : (p q : Pending) → (p.linked ≡ false → p.behind ≡ 0) → (q.linked ≡ false → q.behind ≡ 0)
-    → same_option (cond p.linked (some p.behind) none) (cond q.linked (some q.behind) none) ≡ same_pending p q
-same_behind p q h g = go p.linked q.linked p.behind q.behind h g
+same_behind : (p q : Pending) → (is_some p.behind ≡ false → unwrap_or p.behind 0 ≡ 0) → (is_some q.behind ≡ false → unwrap_or q.behind 0 ≡ 0)
+    → same_option (cond (is_some p.behind) (some (unwrap_or p.behind 0)) none) (cond (is_some q.behind) (some (unwrap_or q.behind 0)) none) ≡ same_pending p q
+same_behind p q h g = go (is_some p.behind) (is_some q.behind) (unwrap_or p.behind 0) (unwrap_or q.behind 0) h g
   where
     go : (a b : Bool) (x y : ℕ) → (a ≡ false → x ≡ 0) → (b ≡ false → y ≡ 0)
         → same_option (cond a (some x) none) (cond b (some y) none) ≡ (same_bool a b && eqb x y)
@@ -72,7 +73,7 @@ same_behind p q h g = go p.linked q.linked p.behind q.behind h g
     go false true x y h g = refl
     go false false x y h g = sym (eq-eqb x y (h refl ∙ sym (g refl)))
 
-unlinked_behind : (L : ℕ → ℕ) (k : ℕ) (p : Pending) → Slot L k p → p.linked ≡ false → p.behind ≡ 0
+unlinked_behind : (L : ℕ → ℕ) (k : ℕ) (p : Pending) → Slot L k p → is_some p.behind ≡ false → unwrap_or p.behind 0 ≡ 0
 unlinked_behind L k p q e = q.behind ∙ rw (sym q.linked ∙ e)
 
 -- a phase x and the ticks a until the next release make a period, or are both 0: the phase says the ticks

@@ -8,12 +8,13 @@ use lib.Dec.{ltb}
 use lib.ListN.{length, length-set}
 use lib.Seq.{get_or-set_same, get_or-set_other}
 use borrow.Author.Tests.{lt-ltb, le-ltb}
+use Rattle.table.specs.declared.Pending.{Pending}
 use Rattle.schedule.specs.Lists.{one?}
 use Rattle.schedule.specs.Servers.{Server}
 use Rattle.schedule.specs.ServerJobs.{priority_of}
 use Rattle.schedule.proofs.Tests.{one_le_one}
 use Rattle.theorems.proofs.LinkRows.{linked_up_to, linked_last, linked_le}
-use Rattle.table.specs.declared.Pending.{Pending}
+use Rattle.std.specs.Prelude.{is_some, unwrap_or}
 use Rattle.table.specs.declared.State.{State}
 use Rattle.window.specs.declared.Plan.{Plan}
 use Rattle.window.specs.Entries.{places, window, further, no_job, no_server, slot_of, server_at, count_at, first_at, unfinished_at, worst_at, next_at, left_at, period_at, step_at}
@@ -37,7 +38,7 @@ module _ (plan : Plan) (now : ℕ) (st : State) (i : ℕ) (sized : Sized st) (in
   response behind = response_of now (next_at st i) n behind (period_at plan i)
 
   abbrev more_worst : ℕ
-  more_worst = max (worst_at st i) (response oldest.behind)
+  more_worst = max (worst_at st i) (response (unwrap_or oldest.behind 0))
 
   drop_count : count_at next i ≡ n - 1
   drop_count = get_or-set_same st.count i (n - 1) 0 (omega (arith, sized.count))
@@ -48,16 +49,16 @@ module _ (plan : Plan) (now : ℕ) (st : State) (i : ℕ) (sized : Sized st) (in
   drop_server : server_at next i ≡ cond (ltb 1 n) (shifted (server_at st i)) (server_at st i)
   drop_server = if_own st.servers i (shifted (server_at st i)) no_server (ltb 1 n) (omega (arith, sized.servers))
 
-  drop_unfinished : unfinished_at next i ≡ unfinished_at st i - one? oldest.linked
+  drop_unfinished : unfinished_at next i ≡ unfinished_at st i - one? (is_some oldest.behind)
   drop_unfinished =
-      if_own st.unfinished i (unfinished_at st i - 1) 0 oldest.linked (omega (arith, sized.unfinished)) ∙ either oldest.linked
+      if_own st.unfinished i (unfinished_at st i - 1) 0 (is_some oldest.behind) (omega (arith, sized.unfinished)) ∙ either (is_some oldest.behind)
     where
       either : (b : Bool) → cond b (unfinished_at st i - 1) (unfinished_at st i) ≡ unfinished_at st i - one? b
       either true = refl
       either false = omega arith
 
-  drop_worst : worst_at next i ≡ cond oldest.linked more_worst (worst_at st i)
-  drop_worst = if_own st.worst i more_worst 0 oldest.linked (omega (arith, sized.worst))
+  drop_worst : worst_at next i ≡ cond (is_some oldest.behind) more_worst (worst_at st i)
+  drop_worst = if_own st.worst i more_worst 0 (is_some oldest.behind) (omega (arith, sized.worst))
 
   pub drop_elsewhere : (j : ℕ) → n ≤ window → (j ≡ i → ⊥) → SameAt j st next
   drop_elsewhere j small h =
@@ -65,9 +66,9 @@ module _ (plan : Plan) (now : ℕ) (st : State) (i : ℕ) (sized : Sized st) (in
         server = if_other st.servers i (shifted (server_at st i)) no_server (ltb 1 n) j h;
         count = get_or-set_other st.count i j (n - 1) 0 h;
         first = get_or-set_other st.first i j (later_key n (first_at st i) (step_at plan i)) 0 h;
-        unfinished = if_other st.unfinished i (unfinished_at st i - 1) 0 oldest.linked j h;
+        unfinished = if_other st.unfinished i (unfinished_at st i - 1) 0 (is_some oldest.behind) j h;
         unlinked = refl;
-        worst = if_other st.worst i more_worst 0 oldest.linked j h;
+        worst = if_other st.worst i more_worst 0 (is_some oldest.behind) j h;
         next = refl;
         left = λ d l. moved_down_other st.left (i * window) n (j * window + d) (λ e k q. h (omega arith));
       }
@@ -82,9 +83,9 @@ module _ (plan : Plan) (now : ℕ) (st : State) (i : ℕ) (sized : Sized st) (in
         left = moved_down_length st.left (i * window) n ∙ sized.left;
         first = length-set st.first i (later_key n (first_at st i) (step_at plan i)) ∙ sized.first;
         count = length-set st.count i (n - 1) ∙ sized.count;
-        unfinished = if_length st.unfinished i (unfinished_at st i - 1) 0 oldest.linked ∙ sized.unfinished;
+        unfinished = if_length st.unfinished i (unfinished_at st i - 1) 0 (is_some oldest.behind) ∙ sized.unfinished;
         unlinked = sized.unlinked;
-        worst = if_length st.worst i more_worst 0 oldest.linked ∙ sized.worst;
+        worst = if_length st.worst i more_worst 0 (is_some oldest.behind) ∙ sized.worst;
         next = sized.next;
       }
     where

@@ -14,7 +14,7 @@ use borrow.Author.Tests.{eqb-true, eqb-false, ltb-true}
 use Rattle.schedule.specs.Servers.{Box, srv, whole}
 use Rattle.schedule.specs.ServerJobs.{used}
 use Rattle.schedule.specs.Links.{links}
-use Rattle.schedule.specs.State.{same_state, state, state_at}
+use Rattle.schedule.specs.State.{same_state, state_at}
 use Rattle.schedule.specs.Walk as Rules
 use Rattle.schedule.specs.Walk.{Stop, settled, unsettled, backlog, boundary, at_boundary, round_at, stop_with, stop_at}
 use Rattle.schedule.proofs.Tests.{by_lt, either_way, dec}
@@ -38,6 +38,7 @@ use Rattle.window.proofs.Compare.{same_states_lem}
 use Rattle.window.proofs.Working.{works}
 use Rattle.window.specs.declared.How.{How}
 use Rattle.window.specs.declared.How.TheVariants.{Settled, Unsettled, Backlog, Reached}
+use Rattle.table.specs.declared.Seen.{Seen}
 use Rattle.window.specs.declared.Walk.{Walk}
 use Rattle.window.specs.Walking.{seen_of, kept_of, ended, settles, runs_out, backlogs, later_of, round_of, kept_from, ticks_from, decided}
 use Rattle.window.specs.Walking.{walk_from, walk_of}
@@ -54,7 +55,7 @@ module _ (X : Box) where
   need = whole X.servers
 
   -- the walk stopped as the rules' does, at or before the instant asked; it shows a state in step
-  pub record Stops (asked : ℕ) (w : Walk) : Type 0 where
+  pub record Stops (asked : ℕ) (w : Walk Seen) : Type 0 where
     pub stop : Stop
     pub how : w.how ≡ how_of stop
     pub first : FirstStop X need stop w.ticks
@@ -64,7 +65,7 @@ module _ (X : Box) where
     pub by : w.ticks ≤ asked
 
   -- it came to the instant asked, and the rules' walk does not stop up to there
-  pub record Comes (asked : ℕ) (w : Walk) : Type 0 where
+  pub record Comes (asked : ℕ) (w : Walk Seen) : Type 0 where
     pub how : w.how ≡ Reached
     pub ticks : w.ticks ≡ asked
     pub state : State
@@ -72,7 +73,7 @@ module _ (X : Box) where
     pub released : Released X asked state
     pub goes_on : (u : ℕ) → u ≤ asked → stop_at X need u ≡ none
 
-  abbrev pub Ends : ℕ → Walk → Type 0
+  abbrev pub Ends : ℕ → Walk Seen → Type 0
   Ends asked w = Stops asked w ⊎ Comes asked w
 
   -- what is kept of the boundary u: the first n places of a state in step there
@@ -278,7 +279,7 @@ module _ (X : Box) (plan : Plan) (fits : Fits X plan) (hyper_some : 0 < X.hyper)
           goes_on = λ u l. by_lt u t (λ h. k.goes_on u h) (λ h. let q : u ≡ t = omega arith in rw q (none_now no-a no-b no-c));
         })
 
-    ends_now : (rest : Walk) → (A ≡ false → B ≡ false → C ≡ false → eqb t asked ≡ false → Ends X asked rest)
+    ends_now : (rest : Walk Seen) → (A ≡ false → B ≡ false → C ≡ false → eqb t asked ≡ false → Ends X asked rest)
         → Ends X asked (decided plan X.hyper X.rounds asked t next round st kept rest)
     unfolding A B C
     ends_now rest later =

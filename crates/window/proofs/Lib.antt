@@ -30,3 +30,4 @@ pub mod Working
 pub mod Boundaries
 pub mod Ends
 pub mod Walked
+pub mod Chains

@@ -1,16 +1,21 @@
 -- What a loop comes to at one index more, and at an index that decides it.
 use mathlib.Core.Path.{◌≡◌, refl, sym, ap, ◌∙◌}
-use mathlib.Core.Bool.{Bool, true, false, and-true, and-false, or-true, or-false}
+use mathlib.Core.Bool.{Bool, true, false, ◌||◌, and-true, and-false, or-true, or-false}
 use mathlib.Core.List.{List}
 use Prim.Native.Nat.{ℕ, zero, suc, ◌+◌, ◌<◌}
 use native.Mathlib.Numerals.{add-one}
 use native.Mathlib.Omega.{arith}
-use lib.ListN.{set}
+use lib.ListN.{get_or, set, length, take}
+use Rattle.std.proofs.lemmas.List.{get_or-take, length-take}
 use Rattle.schedule.proofs.Tests.{by_lt}
 use Rattle.window.specs.Loops.{some_below, all_below, replaced, in_turn}
 
 module _ (p : ℕ → Bool) where
   -- some index passes
+  pub some_more : (i : ℕ) {a b : Bool} → a ≡ some_below p i → b ≡ p i → (a || b) ≡ some_below p (i + 1)
+  unfolding some_below
+  some_more i e f = rw (add-one i, e, f)
+
   pub some_yes : (i : ℕ) → p i ≡ true → true ≡ some_below p (i + 1)
   unfolding some_below
   some_yes i e = rw (add-one i, e) (sym (or-true (some_below p i)))
@@ -59,3 +64,7 @@ module _ {A : Type 0} where
   pub turn_more : (f : A → ℕ → A) (a : A) (i : ℕ) {u v : A} → u ≡ in_turn f a i → v ≡ f u i → v ≡ in_turn f a (i + 1)
   unfolding in_turn
   turn_more f a i e g = rw (add-one i) (g ∙ ap (λ (w : A). f w i) e)
+
+-- an item of the first n
+pub first_item : {A : Type 0} (n : ℕ) (xs : List A) (i : ℕ) (d : A) → i < length (take n xs) → get_or (take n xs) i d ≡ get_or xs i d
+first_item n xs i d h = let l : i < n = omega (arith, length-take n xs) in get_or-take n xs i d l

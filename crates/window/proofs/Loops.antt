@@ -1,6 +1,6 @@
 -- Laws of the loops: a test of some or each index below n; a list whose first entries are replaced; and a state that is changed place by
 -- place, where each step touches its own place only.
-use mathlib.Core.Path.{◌≡◌, refl, ◌∙◌}
+use mathlib.Core.Path.{◌≡◌, refl, sym, ◌∙◌}
 use mathlib.Core.Bool.{Bool}
 use mathlib.Core.List.{List}
 use Prim.Native.Nat.{ℕ, zero, suc, ◌≤◌, ◌<◌}
@@ -9,6 +9,7 @@ use native.Mathlib.Omega.{arith}
 use lib.Dec.{T}
 use lib.ListN.{length, get_or, length-set}
 use lib.Seq.{get_or-set_same, get_or-set_other}
+use Rattle.std.proofs.lemmas.List.{ext_get_or}
 use Rattle.schedule.proofs.Tests.{and_l, and_r, and_i, or_l, or_r, or_e, either_way, by_lt}
 use Rattle.table.specs.declared.State.{State}
 use Rattle.window.specs.Entries.{window, server_at, count_at, first_at, unfinished_at, unlinked_at, worst_at, next_at, left_at}
@@ -54,6 +55,18 @@ module _ {A : Type 0} (f : ℕ → A) (xs : List A) where
   replaced_in (suc n) i d h g =
       by_lt i n (λ l. get_or-set_other (replaced f xs n) n i (f n) d (λ e. omega arith) ∙ replaced_in n i d l (omega arith))
       (λ l. let e : i ≡ n = omega arith in rw e (get_or-set_same (replaced f xs n) n (f n) d (omega (arith, replaced_length n))))
+
+  pub replaced_past : (n i : ℕ) (d : A) → n ≤ i → get_or (replaced f xs n) i d ≡ get_or xs i d
+  unfolding replaced
+  replaced_past zero i d h = refl
+  replaced_past (suc n) i d h = get_or-set_other (replaced f xs n) n i (f n) d (λ e. omega arith) ∙ replaced_past n i d (omega arith)
+
+-- a list with the first n entries of another
+pub first_replaced : {A : Type 0} (f : ℕ → A) (xs u : List A) (n : ℕ) (d : A) → length u ≡ length xs → n ≤ length xs → ((i : ℕ) → i < n → get_or u i d ≡ f i)
+    → ((i : ℕ) → n ≤ i → get_or u i d ≡ get_or xs i d) → u ≡ replaced f xs n
+first_replaced f xs u n d e h new old =
+    ext_get_or d u (replaced f xs n) (e ∙ sym (replaced_length f xs n))
+    (λ i l. by_lt i n (λ q. new i q ∙ sym (replaced_in f xs n i d q h)) (λ q. old i q ∙ sym (replaced_past f xs n i d q)))
 
 -- b has at place i what a has there
 pub record SameAt (i : ℕ) (a b : State) : Type 0 where

@@ -7,6 +7,7 @@ use mathlib.Core.Logic.{◌⊎◌}
 use Prim.Native.Nat.{ℕ, suc, ◌+◌, ◌*◌, ◌-◌, ◌^◌, ◌≤◌, ◌<◌}
 use lib.Dec.{T, ltb, eqb}
 use lib.ListN.{length, get_or}
+use Rattle.table.specs.declared.Pending.{Pending}
 use Rattle.schedule.specs.Limits as Limits
 use Rattle.schedule.specs.Lists.{any?, all?}
 use Rattle.schedule.specs.Servers.{Server, srv, Box, whole}
@@ -17,7 +18,7 @@ use Rattle.theorems.proofs.Linking.{link_of}
 use Rattle.theorems.proofs.LinkRows.{linked_up_to}
 use Rattle.theorems.proofs.TableBox.{beside}
 use Rattle.numbers.specs.Masks.{bit}
-use Rattle.table.specs.declared.Pending.{Pending}
+use Rattle.std.specs.Prelude.{is_some, unwrap_or}
 use Rattle.table.specs.declared.State.{State}
 use Rattle.window.specs.declared.Plan.{Plan}
 use Rattle.window.specs.Entries.{places, window, slots, last_key, slot_of, server_at, count_at, first_at, unfinished_at, unlinked_at, worst_at, next_at, left_at, budget_at, after_at, level_at, period_at, step_at, lead_at, room_at}
@@ -66,8 +67,8 @@ module _ (X : Box) (plan : Plan) where
 
 -- the window's slot p stands for server job k, which is linked to the job L k, 0 for none
 pub record Slot (L : ℕ → ℕ) (k : ℕ) (p : Pending) : Type 0 where
-  pub linked : p.linked ≡ ltb 0 (L k)
-  pub behind : p.behind ≡ cond (ltb 0 (L k)) (k - L k) 0
+  pub linked : is_some p.behind ≡ ltb 0 (L k)
+  pub behind : unwrap_or p.behind 0 ≡ cond (ltb 0 (L k)) (k - L k) 0
 
 -- one server's row: U k ticks used by server job k, L k the job linked to it, N released, c complete and dropped. W is the largest response
 -- of its jobs so far

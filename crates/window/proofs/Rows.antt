@@ -7,12 +7,12 @@ use lib.Dec.{ltb, eqb}
 use lib.ListN.{length, length-set, length-replicate, get_or-replicate}
 use lib.Seq.{get_or-set_same, get_or-set_other}
 use borrow.Author.Tests.{lt-ltb, le-ltb, eq-eqb, ne_eqb}
+use Rattle.table.specs.declared.Pending.{Pending}
 use Rattle.schedule.specs.Lists.{one?}
 use Rattle.schedule.specs.Servers.{Server}
 use Rattle.schedule.specs.ServerJobs.{release_of, priority_of}
 use Rattle.schedule.proofs.Tests.{by_lt, either_way, dec}
 use Rattle.theorems.proofs.LinkRows.{linked_up_to, linked_last, linked_cong}
-use Rattle.table.specs.declared.Pending.{Pending}
 use Rattle.table.specs.declared.Server.{Server as Window}
 use Rattle.table.specs.declared.State.{State}
 use Rattle.window.specs.Entries.{places, window, no_job, slot_of, server_at, count_at, first_at, unfinished_at, unlinked_at, worst_at, next_at, left_at}

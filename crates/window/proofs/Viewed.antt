@@ -7,6 +7,7 @@ use Prim.Native.Nat.{ℕ, zero, suc, ◌+◌, ◌-◌, ◌<◌}
 use native.Mathlib.Omega.{arith}
 use lib.ListN.{length}
 use borrow.Author.Tests.{lt-ltb, le-ltb, eq-eqb, ne_eqb}
+use Rattle.table.specs.declared.Pending.{Pending}
 use Rattle.schedule.specs.Lists.{tab}
 use Rattle.schedule.specs.Servers.{Server, srv, Box, whole}
 use Rattle.schedule.specs.ServerJobs.{released_before, used}
@@ -17,7 +18,7 @@ use Rattle.theorems.proofs.InTurn.{used_by, completed}
 use Rattle.theorems.proofs.Linking.{link_of}
 use Rattle.theorems.proofs.StateRows.{row_of, row_is}
 use Rattle.theorems.proofs.Window.{node_at}
-use Rattle.table.specs.declared.Pending.{Pending}
+use Rattle.std.specs.Prelude.{is_some, unwrap_or}
 use Rattle.table.specs.declared.State.{State}
 use Rattle.window.specs.Entries.{slot_of, server_at, count_at, unfinished_at, unlinked_at, left_at}
 use Rattle.window.proofs.Relation.{Slot, InStep}
@@ -25,7 +26,7 @@ use Rattle.window.proofs.Counted.{unfinished_is, unlinked_is}
 
 -- a slot with its budget left, and a window, as the rules list them
 abbrev pub seen : ℕ → Pending → PendingJob
-seen left p = record { left = left; behind = cond p.linked (some p.behind) none }
+seen left p = record { left = left; behind = cond (is_some p.behind) (some (unwrap_or p.behind 0)) none }
 
 abbrev pub seen_at : State → ℕ → ℕ → PendingJob
 seen_at st i d = seen (left_at st i d) (slot_of (server_at st i) d)
@@ -63,7 +64,7 @@ module _ (X : Box) (t : ℕ) (st : State) (now : InStep X t st) (i : ℕ) (h : i
   job_at k = pending_job S (whole S) (used S X.cap t) (links S X.cap (whole S) t) t i k
 
   behind_seen : (k : ℕ) (p : Pending) → Slot L k p
-      → behind_of S (whole S) (used S X.cap t) (links S X.cap (whole S) t) t i k ≡ cond p.linked (some p.behind) none
+      → behind_of S (whole S) (used S X.cap t) (links S X.cap (whole S) t) t i k ≡ cond (is_some p.behind) (some (unwrap_or p.behind 0)) none
   unfolding behind_of
   behind_seen k p q =
       by_lt 0 (L k) (λ l. rw (ne_eqb (L k) 0 (λ e. omega arith), q.linked, q.behind, lt-ltb 0 (L k) l))

@@ -1,5 +1,5 @@
 -- The states of two boundaries, `hyper` ticks apart, compared number by number and window by window; and what is kept of one.
-use Rattle.std.specs.Prelude.{Bool, true, false, ◌&&◌, not, List, ℕ, ◌+◌, ◌*◌, min, eqb, get_or}
+use Rattle.std.specs.Prelude.{is_some, unwrap_or, Bool, true, false, ◌&&◌, not, List, ℕ, ◌+◌, ◌*◌, min, eqb, get_or}
 use Rattle.table.specs.declared.Pending.{Pending}
 use Rattle.table.specs.declared.Server.{Server}
 use Rattle.table.specs.declared.State.{State}
@@ -12,7 +12,7 @@ same_bool true b = b
 same_bool false b = not b
 
 abbrev pub same_pending : Pending → Pending → Bool
-same_pending x y = same_bool x.linked y.linked && eqb x.behind y.behind
+same_pending x y = same_bool (is_some x.behind) (is_some y.behind) && eqb (unwrap_or x.behind 0) (unwrap_or y.behind 0)
 
 abbrev pub same_window : Server → Server → ℕ → Bool
 same_window s r n = all_below (λ (d : ℕ). same_pending (slot_of s d) (slot_of r d)) (min n window)

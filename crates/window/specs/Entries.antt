@@ -1,8 +1,8 @@
 -- The entries of a state and of a plan by place. These definitions, and all of this crate's, are for the proof and not for belief: what a
 -- reader believes is the rules.
-use Rattle.std.specs.Prelude.{false, [], ℕ, ◌+◌, ◌*◌, ◌-◌, ◌^◌, min, get_or}
-use Rattle.schedule.specs.Limits as Limits
+use Rattle.std.specs.Prelude.{None, [], ℕ, ◌+◌, ◌*◌, ◌-◌, ◌^◌, min, get_or}
 use Rattle.table.specs.declared.Pending.{Pending}
+use Rattle.schedule.specs.Limits as Limits
 use Rattle.table.specs.declared.Server.{Server}
 use Rattle.table.specs.declared.State.{State}
 use Rattle.window.specs.declared.Plan.{Plan}
@@ -19,7 +19,7 @@ slots = places * window
 
 -- what an entry outside of its list is
 abbrev pub no_job : Pending
-no_job = record { behind = 0; linked = false }
+no_job = record { behind = None }
 
 abbrev pub no_server : Server
 no_server = record { jobs = [] }

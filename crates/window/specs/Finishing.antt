@@ -1,6 +1,6 @@
 -- A server job whose budget is used up is dropped, and its window shifted: what the functions of `finishing` compute, and the loop of the walk over
 -- the server jobs that ran.
-use Rattle.std.specs.Prelude.{Bool, ◌&&◌, cond, List, ℕ, suc, ◌+◌, ◌*◌, ◌-◌, min, max, leb, ltb, eqb, get_or, set}
+use Rattle.std.specs.Prelude.{is_some, unwrap_or, Bool, ◌&&◌, cond, List, ℕ, suc, ◌+◌, ◌*◌, ◌-◌, min, max, leb, ltb, eqb, get_or, set}
 use Rattle.table.specs.declared.Pending.{Pending}
 use Rattle.table.specs.declared.Server.{Server}
 use Rattle.table.specs.declared.State.{State}
@@ -45,15 +45,15 @@ abbrev pub finished_with : Plan → ℕ → State → ℕ → State
 finished_with plan now st i =
     let n : ℕ = count_at st i in
     let p : Pending = slot_of (server_at st i) 0 in
-    let response : ℕ = response_of now (next_at st i) n p.behind (period_at plan i) in
+    let response : ℕ = response_of now (next_at st i) n (unwrap_or p.behind 0) (period_at plan i) in
     record {
       servers = shifted_at st.servers i n;
       left = moved_down st.left (i * window) n;
       first = set st.first i (later_key n (first_at st i) (step_at plan i));
       count = set st.count i (n - 1);
-      unfinished = counted_unfinished st.unfinished i p.linked;
+      unfinished = counted_unfinished st.unfinished i (is_some p.behind);
       unlinked = st.unlinked;
-      worst = counted_worst st.worst i p.linked response;
+      worst = counted_worst st.worst i (is_some p.behind) response;
       next = st.next;
     }
 

@@ -1,7 +1,7 @@
 -- Release and link at an instant t: what the functions of `releasing` compute, and the loop of the walk over the servers.
-use Rattle.std.specs.Prelude.{Bool, true, false, ◌&&◌, ◌||◌, not, cond, List, ℕ, zero, suc, ◌+◌, ◌*◌, ◌-◌, ◌^◌, min, leb, ltb, eqb, get_or, set, replicate}
-use Rattle.numbers.specs.Masks.{bit}
+use Rattle.std.specs.Prelude.{Some, None, Bool, true, false, ◌&&◌, ◌||◌, not, cond, List, ℕ, zero, suc, ◌+◌, ◌*◌, ◌-◌, ◌^◌, min, leb, ltb, eqb, get_or, set, replicate}
 use Rattle.table.specs.declared.Pending.{Pending}
+use Rattle.numbers.specs.Masks.{bit}
 use Rattle.table.specs.declared.Server.{Server}
 use Rattle.table.specs.declared.State.{State}
 use Rattle.window.specs.declared.Plan.{Plan}
@@ -30,8 +30,8 @@ abbrev pub all_fewer : List ℕ → ℕ → ℕ → Bool
 all_fewer unfinished after unlinked = all_below (λ (p : ℕ). not (bit after p) || ltb (get_or unfinished p 0) unlinked) places
 
 abbrev pub linked_now : Bool → ℕ → Pending
-linked_now true unlinked = record { behind = unlinked; linked = true }
-linked_now false unlinked = record { behind = 0; linked = false }
+linked_now true unlinked = record { behind = Some unlinked }
+linked_now false unlinked = record { behind = None }
 
 -- the key of a server job that is released at t
 abbrev pub new_key : ℕ → ℕ → ℕ

@@ -17,7 +17,7 @@ use Rattle.window.specs.declared.Walk.{Walk}
 abbrev pub seen_of : State → Seen
 seen_of st = record { servers = st.servers; first = st.first; count = st.count; worst = st.worst }
 
-abbrev pub ended : How → ℕ → State → Walk
+abbrev pub ended : How → ℕ → State → Walk Seen
 ended how t st = record { how = how; ticks = t; state = seen_of st }
 
 -- what is kept before there is a boundary: never looked at
@@ -62,23 +62,23 @@ module _ (plan : Plan) (hyper rounds asked : ℕ) where
   ticks_from t boundary a = span_of plan t (later_of t boundary) asked a
 
   -- what the tests come to, where `rest` is the walk from the next event on
-  abbrev pub decided : (t boundary round : ℕ) → State → Kept → Walk → Walk
+  abbrev pub decided : (t boundary round : ℕ) → State → Kept → Walk Seen → Walk Seen
   decided t boundary round st kept rest =
       cond (settles t boundary round st kept) (ended (Settled round) t st)
       (cond (runs_out t boundary round) (ended Unsettled t st)
       (cond (backlogs t st) (ended Backlog t st) (cond (eqb t asked) (ended Reached t (released_at plan t st)) rest)))
 
   -- at instant t: `boundary` is the first boundary at or after t, number `round`; `kept` what is kept of the one before it
-  unfoldable pub walk_from : (left t boundary round : ℕ) → State → Kept → Walk
+  unfoldable pub walk_from : (left t boundary round : ℕ) → State → Kept → Walk Seen
   walk_from zero t boundary round st kept = ended Unsettled t st
   walk_from (suc left) t boundary round st kept =
       let a : State = released_at plan t st in
       let d : ℕ = ticks_from t boundary a in
-      let rest : Walk =
+      let rest : Walk Seen =
       walk_from left (t + d) (later_of t boundary) (round_of t boundary round) (worked plan t d a) (kept_from t boundary st kept) in
       decided t boundary round st kept rest
 
 -- from the fresh state, as far as the last boundary: each event takes a tick at least
-unfoldable pub walk_of : Plan → List ℕ → (origin hyper rounds asked : ℕ) → Walk
+unfoldable pub walk_of : Plan → List ℕ → (origin hyper rounds asked : ℕ) → Walk Seen
 walk_of plan offsets origin hyper rounds asked =
     walk_from plan hyper rounds asked (suc (origin + rounds * hyper)) 0 origin 0 (fresh_state offsets) (kept_of (fresh_state offsets))

@@ -2,12 +2,12 @@
 // what each function of the engine computes, and proofs/ that this is the schedule of the rules.
 #![tactic(auto)]
 
-use table::{Seen, Table};
+use table::Table;
 
 // By place: the node's budget; its predecessors, bit p for the node at place p; its level; its graph's period; how far the keys of two server
 // jobs in a row lie apart, period × SERVERS; what a key is above its release × SERVERS, point × SERVERS + place; how many unfinished jobs make a
 // backlog of one release more (UNFINISHED for a sink, more than a node can have elsewhere); and the numbers of its graph and of itself in
-// the graph, for the row. Numbers only, so that each array can be lent.
+// the graph, for the row. Arrays by place, since the walk looks at one of these for all places at a time.
 #[derive(Clone, Copy)]
 pub struct Plan {
     pub processors: usize,
@@ -32,11 +32,10 @@ pub enum How {
     Reached,
 }
 
-// How, at which instant, and what is shown of the state there: before the releases of that instant, but after them where the walk ended at
-// the instant asked.
+// How, at which instant, and the state there: before the releases of that instant, but after them where the walk ended at the instant asked.
 #[derive(Clone, Copy)]
-pub struct Walk {
+pub struct Walk<S> {
     pub how: How,
     pub ticks: u32,
-    pub state: Seen,
+    pub state: S,
 }

@@ -10,15 +10,11 @@ pub fn put_bytes(part: &mut [u8], text: &[u8]) -> usize
     requires { length text.now ≤ length part.old }
     ensures { Written text.now part.old part.new result }
 {
-    let mut i: usize = 0;
-    while i < text.len() {
-        part[i] = text[i];
-        i += 1;
-    }
-    i
+    part[..text.len()].copy_from_slice(text);
+    text.len()
 }
 
-// A number and the byte that ends it.
+// A number and the byte that ends it. What follows states texts of its own: no writer here is another one at another type.
 pub fn put_ended(part: &mut [u8], v: u32, end: u8) -> usize
     requires { length (ended v end) ≤ length part.old }
     ensures { Written (ended v end) part.old part.new result }

@@ -9,14 +9,15 @@ ghost use Rattle.writing.specs.Written.{Written};
 use crate::line::{line_length, put_line};
 use format::Refusal;
 
+// Functions and no `From` or methods: neither `Refusal` nor `u32` is of this crate.
 pub fn number_of(r: Refusal) -> u32
     ensures { result ≡ number_of r }
 {
     match r {
         Refusal::TooLong => 1,
-        Refusal::Misspelled { line: _, column: _ } => 2,
-        Refusal::OutsideLimits { line: _, column: _ } => 3,
-        Refusal::AgainstPredecessorRules { line: _, column: _ } => 4,
+        Refusal::Misspelled { .. } => 2,
+        Refusal::OutsideLimits { .. } => 3,
+        Refusal::AgainstPredecessorRules { .. } => 4,
         Refusal::LongHyperperiod => 5,
         Refusal::NotLoadable => 6,
         Refusal::Backlog => 7,
@@ -32,18 +33,10 @@ pub fn line_of(r: Refusal) -> u32
     ensures { result ≡ line_of r }
 {
     match r {
-        Refusal::TooLong => 0,
-        Refusal::Misspelled { line, column: _ } => line,
-        Refusal::OutsideLimits { line, column: _ } => line,
-        Refusal::AgainstPredecessorRules { line, column: _ } => line,
-        Refusal::LongHyperperiod => 0,
-        Refusal::NotLoadable => 0,
-        Refusal::Backlog => 0,
-        Refusal::Unsettled => 0,
-        Refusal::PastTheStop => 0,
-        Refusal::ShortBuffer => 0,
-        Refusal::WrongLengths => 0,
-        Refusal::CannotKeepUp => 0,
+        Refusal::Misspelled { line, .. }
+        | Refusal::OutsideLimits { line, .. }
+        | Refusal::AgainstPredecessorRules { line, .. } => line,
+        _ => 0,
     }
 }
 
@@ -51,18 +44,10 @@ pub fn column_of(r: Refusal) -> u32
     ensures { result ≡ column_of r }
 {
     match r {
-        Refusal::TooLong => 0,
-        Refusal::Misspelled { line: _, column } => column,
-        Refusal::OutsideLimits { line: _, column } => column,
-        Refusal::AgainstPredecessorRules { line: _, column } => column,
-        Refusal::LongHyperperiod => 0,
-        Refusal::NotLoadable => 0,
-        Refusal::Backlog => 0,
-        Refusal::Unsettled => 0,
-        Refusal::PastTheStop => 0,
-        Refusal::ShortBuffer => 0,
-        Refusal::WrongLengths => 0,
-        Refusal::CannotKeepUp => 0,
+        Refusal::Misspelled { column, .. }
+        | Refusal::OutsideLimits { column, .. }
+        | Refusal::AgainstPredecessorRules { column, .. } => column,
+        _ => 0,
     }
 }
 

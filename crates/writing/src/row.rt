@@ -1,5 +1,5 @@
 // The row's text: one line `run=graph,node,server job,invocation` per running server job in priority order.
-ghost use Rattle.std.specs.Prelude.{[], ◌∷◌, ◌≤◌, length};
+ghost use Rattle.std.specs.Prelude.{◌≡◌, [], ◌∷◌, ◌≤◌, length, take};
 ghost use Rattle.schedule.specs.Limits as Limits;
 ghost use Rattle.rules.specs.Answers.{row_text};
 ghost use Rattle.writing.specs.Lengths.{Long, longest_run, longest_row};
@@ -11,7 +11,7 @@ use crate::number::digits;
 use table::Table;
 
 // A running server job; `invocation` is 0 for an unlinked one.
-#[derive(Clone, Copy)]
+#[derive(Clone, Copy, Default)]
 pub struct Run {
     pub graph: u32,
     pub node: u32,
@@ -19,11 +19,22 @@ pub struct Run {
     pub invocation: u32,
 }
 
-// The first `count` of `run` run.
+// The first `count` of `run` run. An array and a count: there is no heap, and a row goes by value. No invariant bounds the count: the rows that
+// specs/ of `rows` and `ledger` speak of may count past it.
 #[derive(Clone, Copy)]
 pub struct Row {
     pub run: [Run; Table::RUNNING],
     pub count: usize,
+}
+
+impl Row {
+    // What runs.
+    fn running(&self) -> &[Run]
+        requires { self.now.count ≤ (Limits.processors).to }
+        ensures { result.now ≡ take self.now.count self.now.run }
+    {
+        &self.run[..self.count]
+    }
 }
 
 pub fn run_length(x: Run) -> usize
@@ -38,13 +49,9 @@ pub fn row_length(row: Row) -> usize
     requires { row.count ≤ (Limits.processors).to }
     ensures { Long (row_text (running_in row)) longest_row result }
 {
-    let count = row.count;
     let mut n: usize = 0;
-    let mut i: usize = 0;
-    while i < count {
-        let x = row.run[i];
-        n += run_length(x);
-        i += 1;
+    for x in row.running() {
+        n += run_length(*x);
     }
     n
 }
@@ -64,13 +71,9 @@ pub fn put_row(buf: &mut [u8], row: Row) -> usize
     requires row_in_bounds { length (row_text (running_in row)) ≤ length buf.old }
     ensures { Written (row_text (running_in row)) buf.old buf.new result }
 {
-    let count = row.count;
     let mut at: usize = 0;
-    let mut i: usize = 0;
-    while i < count {
-        let x = row.run[i];
-        at += put_run(&mut buf[at..], x);
-        i += 1;
+    for x in row.running() {
+        at += put_run(&mut buf[at..], *x);
     }
     at
 }

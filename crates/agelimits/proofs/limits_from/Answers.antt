@@ -1,60 +1,41 @@
 -- `limits_from` meets its contract: at each turn the limits after g go behind those that were read.
-use mathlib.Core.Path.{◌≡◌, refl, sym, ◌∙◌, ap}
-use Prim.Native.Nat.{ℕ, ◌-◌}
-use native.Mathlib.Omega.{arith}
-use lib.ListN.{take, length-set}
-use Rattle.format.specs.Keys as Keys
+use Rattle.std.proofs.Common.{◌≡◌, ℕ, take, sym, refl, ◌∙◌, ap, arith, length-set}
+use Rattle.std.proofs.lemmas.Result.{err_from_is_err_and}
 use Rattle.format.specs.Reading.{done}
-use Rattle.rules.proofs.Outcomes.{told, number_line_holds}
-use Rattle.lines.specs.Numbered.{place_of, line_read_of}
-use Rattle.agelimits.specs.Read.{start}
+use Rattle.lines.specs.Numbered.{stands}
 use Rattle.agelimits.proofs.Runs.{limits_all, limits_one, limits_stop, limits_none}
 use Rattle.agelimits.proofs.limits_from.Goals as goal
 
 pub loop-g-init : goal.loop-g-init
-loop-g-init c = (omega arith, omega arith, refl, limits_all c.args.n (start c.args.s.now))
+loop-g-init c = (omega arith, refl, limits_all c.args.n (stands c.args.lines.now))
 
-pub one_at-requires : goal.one_at-requires
-one_at-requires c = (omega arith, omega arith)
-
-pub returns-in-Refused : goal.returns-in-Refused
-returns-in-Refused c =
+pub returns-in_err-v : goal.returns-in_err-v
+returns-in_err-v c =
     let st = c.loop-g in
-    let a = c.args in
-    let s = a.s.now in
-    let P = place_of s st.p in
-    sym (st.invariant.3 ∙ limits_stop st.limits a.n st.g P (omega arith) _
-    (sym c.one_at.ensures ∙ ap (line_read_of s) c.in-Refused.is))
-
-pub bounds-limits-g : goal.bounds-limits-g
-bounds-limits-g c = omega arith
-
-pub overflow_add-g : goal.overflow_add-g
-overflow_add-g c = omega arith
-
-pub loop-g-smaller : goal.loop-g-smaller
-loop-g-smaller c = omega arith
+    let p = err_from_is_err_and c.from_residual.result c.from_residual.ensures.1 in
+    let e = c.in_err-v.ensures.read in
+    rw (p.1, p.2)
+    (record {
+      limits = sym (st.invariant.2 ∙ limits_stop st.limits c.args.n st.g (stands st.lines) (omega arith) _ (sym e.came));
+      text = e.text ∙ st.invariant.1;
+    })
 
 pub loop-g-preserved : goal.loop-g-preserved
 loop-g-preserved c =
     let st = c.loop-g in
-    let a = c.args in
-    let s = a.s.now in
-    let P = place_of s st.p in
-    let Q = place_of s c.in-Value.q in
-    let e = sym c.one_at.ensures ∙ ap (line_read_of s) c.in-Value.is in
-    let l = (told _ e (number_line_holds Keys.limit P)).1 in (
-      omega arith,
-      omega (arith, l),
-      length-set st.limits st.g c.in-Value.v ∙ st.invariant.2,
-      st.invariant.3 ∙ limits_one st.limits a.n st.g P (omega arith) (omega arith) c.in-Value.v Q e,
+    let v = c.in_ok-v.v in
+    let e = c.in_ok-v.ensures.read in (
+      length-set st.limits st.g v ∙ st.invariant.0,
+      e.text ∙ st.invariant.1,
+      st.invariant.2 ∙ limits_one st.limits c.args.n st.g (stands st.lines) (omega arith) (omega arith) v (stands c.line.new.self) (sym e.came),
     )
 
 pub returns : goal.returns
 returns c =
     let st = c.loop-g in
-    let a = c.args in
-    let s = a.s.now in
-    let P = place_of s st.p in
-    let all : st.g ≡ a.n = omega arith in
-    sym (st.invariant.3 ∙ limits_none st.limits a.n st.g P (omega arith) ∙ ap (λ (k : ℕ). done (take k st.limits) P) all)
+    let P = stands st.lines in
+    let all : st.g ≡ c.args.n = omega arith in
+    record {
+      limits = sym (st.invariant.2 ∙ limits_none st.limits c.args.n st.g P (omega arith) ∙ ap (λ (k : ℕ). done (take k st.limits) P) all);
+      text = st.invariant.1;
+    }

@@ -1,29 +1,21 @@
--- `best_from` meets its contract. The loop keeps: `best` is the best of the first i heads.
-use mathlib.Core.Path.{◌≡◌, refl, ◌∙◌}
-use native.Mathlib.Nat.{le_antisymm}
-use borrow.Author.Rules.{rules}
-use borrow.Author.Tests.{lt-ltb, le-ltb}
+-- `best_from` meets its contract. The loop keeps: `best` is the best of the first heads.
+use mathlib.Core.Path.{◌≡◌, refl}
 use Rattle.window.specs.Choosing.{best_from, head_from}
-use Rattle.choosing.proofs.ChooseLaws.{best_more, best_same}
+use Rattle.choosing.proofs.ChooseLaws.{head_below, head_at, best_more}
 use Rattle.choosing.proofs.best_from.Goals as goal
-use Rattle.choosing.proofs.best_from.Goals.{then-heads-i, else-heads-i, then-k-best, else-k-best}
+use Rattle.choosing.proofs.best_from.Goals.{then-head-from, else-head-from}
 
-pub loop-i-init : goal.loop-i-init
+pub loop-head-init : goal.loop-head-init
 unfolding best_from
-loop-i-init c = (search rules, refl)
+loop-head-init c = refl
 
-pub loop-i-preserved : goal.loop-i-preserved
-loop-i-preserved c =
+pub loop-head-preserved : goal.loop-head-preserved
+loop-head-preserved c =
     let a = c.args in
-    let i = c.loop-i.i in
-    let head : c.if-heads-i.k ≡ head_from a.heads.now a.from i =
-    elim c.if-heads-i.branch [ then-heads-i w ↦ rw (lt-ltb _ _ w.if-heads-i.true) w.k-is | else-heads-i w ↦ rw (le-ltb _ _ w.if-heads-i.false) w.k-is ] in (
-      search rules,
-      elim c.if-k-best.branch [
-        | then-k-best w ↦ w.best-is ∙ best_more a.heads.now a.from i c.loop-i.invariant.1 head w.if-k-best.true
-        | else-k-best w ↦ w.best-is ∙ best_same a.heads.now a.from i c.loop-i.invariant.1 head w.if-k-best.false
-      ],
-    )
-
-pub returns : goal.returns
-returns c = rw (le_antisymm c.loop-i.invariant.0 c.loop-i-test.false) at c.loop-i.invariant.1
+    let i = c.loop-head.head-index in
+    let head : c.if-head-from.k ≡ head_from a.heads.now a.from i =
+    elim c.if-head-from.branch [
+      | then-head-from w ↦ head_below a.heads.now a.from a.n i c.loop-head-test.true w.if-head-from.true w.k-is
+      | else-head-from w ↦ head_at a.heads.now a.from a.n i c.loop-head-test.true w.if-head-from.false w.k-is
+    ] in
+    best_more a.heads.now a.from i c.loop-head.invariant head c.min-best.ensures

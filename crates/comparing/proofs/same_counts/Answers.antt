@@ -1,26 +1,9 @@
--- `same_counts` meets its contract. The loop keeps: the first i are the same.
-use mathlib.Core.Path.{refl, ◌∙◌}
-use mathlib.Core.Bool.{Bool}
-use Prim.Native.Nat.{ℕ}
+-- `same_counts` meets its contract: two slices are the same where each entry is.
+use mathlib.Core.Path.{◌∙◌}
 use native.Mathlib.Omega.{arith}
 use lib.Dec.{eqb}
-use lib.ListN.{get_or}
-use borrow.Author.Tests.{eq-eqb, ne_eqb}
-use Rattle.window.specs.Loops.{all_below}
-use Rattle.window.proofs.LoopLaws.{all_yes}
-use Rattle.comparing.proofs.CompareLaws.{one_differs, each_same}
-use borrow.Author.Rules.{rules}
+use Rattle.window.proofs.Chains.{first_same}
 use Rattle.comparing.proofs.same_counts.Goals as goal
 
-pub loop-i-init : goal.loop-i-init
-unfolding all_below
-loop-i-init c = (search rules, refl)
-
-pub returns-then-x-i : goal.returns-then-x-i
-returns-then-x-i c = one_differs ((let it : ℕ → Bool = λ i. eqb (get_or c.args.x.now i 0) (get_or c.args.y.now i 0) in it)) _ refl c.loop-i.i (omega arith) (ne_eqb _ _ c.if-x-i.true)
-
-pub loop-i-preserved : goal.loop-i-preserved
-loop-i-preserved c = (search rules, c.loop-i.invariant.1 ∙ all_yes ((let it : ℕ → Bool = λ i. eqb (get_or c.args.x.now i 0) (get_or c.args.y.now i 0) in it)) c.loop-i.i (eq-eqb _ _ c.if-x-i.false))
-
 pub returns : goal.returns
-returns c = each_same ((let it : ℕ → Bool = λ i. eqb (get_or c.args.x.now i 0) (get_or c.args.y.now i 0) in it)) _ refl _ c.loop-i.invariant.1 c.loop-i.invariant.0 c.loop-i-test.false
+returns c = c.eq.ensures ∙ first_same eqb 0 c.args.n c.args.x.now c.args.y.now (omega arith) (omega arith)

@@ -2,10 +2,10 @@
 use Rattle.printouts.proofs.Outputs.{text_printed, text_refused}
 use Rattle.printouts.proofs.put_left.Goals as goal
 
-pub returns-in-Texts : goal.returns-in-Texts
-returns-in-Texts c =
-    text_printed c.args.bytes.now _ _ _ _ c.requires.to_in_bounds c.requires.longest_list_in_bounds _ _ (rw c.in-Texts.is at c.salvage-a.ensures)
+pub returns-in-Ok : goal.returns-in-Ok
+returns-in-Ok c =
+    text_printed c.args.bytes.now _ _ _ _ c.requires.to_in_bounds c.requires.longest_list_in_bounds _ (rw c.in-Ok.is at c.salvage.ensures)
 
-pub returns-in-Refused : goal.returns-in-Refused
-returns-in-Refused c =
-    text_refused c.args.bytes.now _ _ _ _ c.requires.to_in_bounds c.requires.longest_list_in_bounds _ _ _ _ (rw c.in-Refused.is at c.salvage-a.ensures) c.refusal_length-n.ensures.size c.put_refusal.ensures
+pub returns-in-Err : goal.returns-in-Err
+returns-in-Err c =
+    text_refused c.args.bytes.now _ _ _ _ c.requires.to_in_bounds c.requires.longest_list_in_bounds _ _ _ _ (rw c.in-Err.is at c.salvage.ensures) c.refusal_length-n.ensures.size c.put_refusal.ensures

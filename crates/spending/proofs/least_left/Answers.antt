@@ -1,20 +1,19 @@
--- `least_left` meets its contract. The loop keeps: `least` is that of the first r that run.
+-- `least_left` meets its contract. The loop keeps: `least` is that of the first ones that run.
 use mathlib.Core.Path.{refl}
-use native.Mathlib.Nat.{le_antisymm}
 use Rattle.window.specs.Spending.{least_left}
-use Rattle.spending.proofs.SpendLaws.{least_more}
-use borrow.Author.Rules.{rules}
+use Rattle.spending.proofs.SpendLaws.{least_more, least_same}
 use Rattle.spending.proofs.least_left.Goals as goal
+use Rattle.spending.proofs.least_left.Goals.{then-x-gt0, else-x-gt0}
 
-pub loop-r-init : goal.loop-r-init
+pub loop-place-init : goal.loop-place-init
 unfolding least_left
-loop-r-init c = (search rules, refl)
+loop-place-init c = refl
 
-pub loop-r-preserved : goal.loop-r-preserved
-loop-r-preserved c =
+pub loop-place-preserved : goal.loop-place-preserved
+loop-place-preserved c =
     let a = c.args in
-    let k = c.place_at-k in
-    (search rules, least_more a.left.now a.at.now c.loop-r.r k.result k.ensures a.most c.loop-r.invariant.1 c.lesser-least.ensures)
-
-pub returns : goal.returns
-returns c = rw (le_antisymm c.loop-r.invariant.0 c.loop-r-test.false) at c.loop-r.invariant.1
+    let l = c.loop-place in
+    elim c.if-x-gt0.branch [
+      | then-x-gt0 w ↦ least_more a.left.now a.at.now l.place-index _ c.place_at.ensures a.most l.invariant w.least-is w.min-least.ensures w.from.ensures w.if-x-gt0.true
+      | else-x-gt0 w ↦ least_same a.left.now a.at.now l.place-index _ c.place_at.ensures a.most l.invariant w.least-is w.if-x-gt0.false
+    ]

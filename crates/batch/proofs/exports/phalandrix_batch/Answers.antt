@@ -11,7 +11,7 @@ returns-then-not-is_batch c =
     let s = c.args.tables.now in
     let ls = c.args.lengths.now in
     let b = c.args.buffer.now in
-    record { call = told_refused s ls b c.refused.result _ e c.refused.ensures refl; least_true = true_refused s ls b c.refused.result b c.refused.ensures }
+    record { call = told_refused s ls b c.from.result _ e c.from.ensures refl; least_true = true_refused s ls b c.from.result b c.from.ensures }
 
 pub shared_out-requires : goal.shared_out-requires
 shared_out-requires c =

@@ -1,10 +1,10 @@
 -- `one_at` meets its contract.
-use mathlib.Core.Path.{◌∙◌, ap}
-use native.Mathlib.Omega.{arith}
-use Rattle.lines.specs.Numbered.{line_read_of}
-use Rattle.lines.proofs.NumberedLaws.{line_numbered}
+use Rattle.table.specs.Keys.{place as row_of}
+use Rattle.lines.proofs.NumberedLaws.{line_read, line_refused}
 use Rattle.lines.proofs.numbering.one_at.Goals as goal
 
-pub returns : goal.returns
-returns c =
-    ap (line_read_of c.args.s.now) c.numbered.ensures ∙ line_numbered c.args.s.now c.args.k 0 c.args.place c.line_at-got.result (omega arith) c.line_at-got.ensures
+pub returns-in-Ok : goal.returns-in-Ok
+returns-in-Ok c = line_read c.args.s.now c.args.place (row_of c.args.k) c.args.own c.requires.1 c.in-Ok.v c.in-Ok.at c.in-Ok.ensures
+
+pub returns-in-Err : goal.returns-in-Err
+returns-in-Err c = rw c.refusal.ensures (line_refused c.args.s.now c.args.place (row_of c.args.k) c.args.own c.requires.1 c.in-Err.fault c.in-Err.ensures)

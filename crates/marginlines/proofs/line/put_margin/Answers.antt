@@ -5,10 +5,19 @@ use Prim.Native.Nat.{ℕ, ◌+◌, ◌-◌, ◌≤◌, ◌<◌}
 use native.Mathlib.Omega.{arith}
 use lib.ListN.{length, length-append}
 use Rattle.format.specs.Bytes.{bytes, line_feed}
+use Rattle.margins.specs.Margins.{margin_line}
 use Rattle.writing.specs.Line.{ended}
-use Rattle.writing.proofs.Writing.{named, begins, room, both}
+use Rattle.writing.proofs.Writing.{named, room, both}
 use Rattle.marginlines.proofs.Margins.{kept_line, over_line}
 use Rattle.marginlines.proofs.line.put_margin.Goals as goal
+
+-- the digits of what is over
+abbrev over : ℕ → ℕ → List ℕ
+over limit response = ended (response - limit) line_feed
+
+fit : (limit response : ℕ) (part : List ℕ) → limit < response → length (margin_line limit response) ≤ length part
+    → length (bytes "margin=-") + length (over limit response) ≤ length part
+fit limit response part h room = omega (arith, ap length (over_line limit response h), length-append (bytes "margin=-") (over limit response))
 
 pub put_line-requires : goal.put_line-requires
 put_line-requires c =
@@ -20,22 +29,16 @@ returns-then-response-limit c =
 
 pub put_bytes-at-requires : goal.put_bytes-at-requires
 put_bytes-at-requires c =
-    omega (arith, (let it : c.args.limit < c.args.response → length (bytes "margin=-") + length ((let it : List ℕ = ended (c.args.response - c.args.limit) line_feed in it)) ≤ length c.args.part.now = λ h. omega (arith, ap length (over_line c.args.limit c.args.response h), length-append (bytes "margin=-") ((let it : List ℕ = ended (c.args.response - c.args.limit) line_feed in it)), c.requires) in it) (omega arith))
-
-pub slice_bounds-put_ended-count : goal.slice_bounds-put_ended-count
-slice_bounds-put_ended-count c =
-    begins ((let it : List ℕ = ended (c.args.response - c.args.limit) line_feed in it)) c.put_bytes-at.ensures ((let it : c.args.limit < c.args.response → length (bytes "margin=-") + length ((let it : List ℕ = ended (c.args.response - c.args.limit) line_feed in it)) ≤ length c.args.part.now = λ h. omega (arith, ap length (over_line c.args.limit c.args.response h), length-append (bytes "margin=-") ((let it : List ℕ = ended (c.args.response - c.args.limit) line_feed in it)), c.requires) in it) (omega arith))
+    let a = c.args in
+    omega (arith, fit a.limit a.response a.part.now (omega arith) c.requires)
 
 pub put_ended-requires : goal.put_ended-requires
 put_ended-requires c =
-    room ((let it : List ℕ = ended (c.args.response - c.args.limit) line_feed in it)) c.put_bytes-at.ensures ((let it : c.args.limit < c.args.response → length (bytes "margin=-") + length ((let it : List ℕ = ended (c.args.response - c.args.limit) line_feed in it)) ≤ length c.args.part.now = λ h. omega (arith, ap length (over_line c.args.limit c.args.response h), length-append (bytes "margin=-") ((let it : List ℕ = ended (c.args.response - c.args.limit) line_feed in it)), c.requires) in it) (omega arith))
-
-pub overflow_add-result : goal.overflow_add-result
-overflow_add-result c =
-    let first = c.put_bytes-at.ensures in
-    omega (arith, first.size, c.put_ended.ensures.size, (let it : c.args.limit < c.args.response → length (bytes "margin=-") + length ((let it : List ℕ = ended (c.args.response - c.args.limit) line_feed in it)) ≤ length c.args.part.now = λ h. omega (arith, ap length (over_line c.args.limit c.args.response h), length-append (bytes "margin=-") ((let it : List ℕ = ended (c.args.response - c.args.limit) line_feed in it)), c.requires) in it) (omega arith), c.well_formed.0.0)
+    let a = c.args in
+    room (over a.limit a.response) c.put_bytes-at.ensures (fit a.limit a.response a.part.now (omega arith) c.requires)
 
 pub returns : goal.returns
 returns c =
-    let first = c.put_bytes-at.ensures in
-    named (over_line c.args.limit c.args.response (omega arith)) (both ((let it : List ℕ = ended (c.args.response - c.args.limit) line_feed in it)) first ((let it : c.args.limit < c.args.response → length (bytes "margin=-") + length ((let it : List ℕ = ended (c.args.response - c.args.limit) line_feed in it)) ≤ length c.args.part.now = λ h. omega (arith, ap length (over_line c.args.limit c.args.response h), length-append (bytes "margin=-") ((let it : List ℕ = ended (c.args.response - c.args.limit) line_feed in it)), c.requires) in it) (omega arith)) c.put_ended.ensures)
+    let a = c.args in
+    named (over_line a.limit a.response (omega arith))
+    (both (over a.limit a.response) c.put_bytes-at.ensures (fit a.limit a.response a.part.now (omega arith) c.requires) c.put_ended.ensures)

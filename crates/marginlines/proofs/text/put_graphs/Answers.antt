@@ -1,67 +1,46 @@
--- `put_graphs` meets its contract. The loop's invariant: the lines of the first `g` graphs are written.
-use mathlib.Core.Path.{◌≡◌, refl, ap}
+-- `put_graphs` meets its contract. The loop's invariant: the lines of the graphs passed are written.
+use mathlib.Core.Path.{◌≡◌, ap}
 use mathlib.Core.List.{List}
-use Prim.Native.Nat.{ℕ, ◌+◌, ◌-◌, ◌≤◌, ◌<◌}
+use Prim.Native.Nat.{ℕ, ◌+◌, ◌≤◌, ◌<◌}
 use native.Mathlib.Omega.{arith}
 use lib.ListN.{length, take, get_or}
-use Rattle.schedule.specs.Limits as Limits
+use Rattle.std.proofs.lemmas.List.{length_push}
+use Rattle.std.proofs.lemmas.Slice.Zip.{zip_turn}
 use Rattle.margins.specs.Margins.{margin_lines}
-use Rattle.writing.proofs.Writing.{nothing, named, begins, room, both, keeps}
+use Rattle.writing.proofs.Writing.{nothing, named, room, both}
 use Rattle.marginlines.specs.Lines.{graph_lines}
 use Rattle.marginlines.proofs.Margins.{graph_more, graph_fits}
 use Rattle.marginlines.proofs.text.put_graphs.Goals as goal
 
-fit : (fs ls part : List ℕ) (graphs g : ℕ) → length fs ≡ (Limits.graphs).to → graphs ≤ (Limits.graphs).to → g < graphs
-    → length (margin_lines (take graphs fs) (take graphs ls)) ≤ length part
-    → length (margin_lines (take g fs) (take graphs ls)) + length (graph_lines (get_or ls g 0) (get_or fs g 0)) ≤ length part
-fit fs ls part graphs g many few inside h = omega (arith, graph_fits fs ls graphs g (omega arith) inside)
+fit : (fs ls part : List ℕ) (g limit figure : ℕ) → g < length fs → graph_lines limit figure ≡ graph_lines (get_or ls g 0) (get_or fs g 0)
+    → length (margin_lines fs ls) ≤ length part → length (margin_lines (take g fs) ls) + length (graph_lines limit figure) ≤ length part
+fit fs ls part g limit figure inside lines h = omega (arith, graph_fits fs ls g inside, ap length lines)
 
-pub loop-g-init : goal.loop-g-init
+pub loop-figure-init : goal.loop-figure-init
 unfolding margin_lines
-loop-g-init c = (omega arith, refl, nothing c.args.part.now)
-
-pub slice_bounds-put_lines-count : goal.slice_bounds-put_lines-count
-slice_bounds-put_lines-count c =
-    let l = c.loop-g in
-    begins (graph_lines (get_or c.args.limits l.g 0) (get_or c.args.figures l.g 0)) l.invariant.2 (fit c.args.figures c.args.limits c.args.part.now c.args.graphs l.g (omega arith) c.requires.graphs_bound (omega arith) c.requires.limits_in_bounds)
-
-pub offset_bounds-limits-g : goal.offset_bounds-limits-g
-offset_bounds-limits-g c = omega arith
-
-pub bounds-limits-g : goal.bounds-limits-g
-bounds-limits-g c = omega arith
-
-pub offset_bounds-figures-g : goal.offset_bounds-figures-g
-offset_bounds-figures-g c = omega arith
-
-pub bounds-figures-g : goal.bounds-figures-g
-bounds-figures-g c = omega arith
+loop-figure-init c = (nothing c.args.part.now, omega arith)
 
 pub put_lines-at-requires : goal.put_lines-at-requires
 put_lines-at-requires c =
-    let l = c.loop-g in
-    room (graph_lines (get_or c.args.limits l.g 0) (get_or c.args.figures l.g 0)) l.invariant.2 (fit c.args.figures c.args.limits c.args.part.now c.args.graphs l.g (omega arith) c.requires.graphs_bound (omega arith) c.requires.limits_in_bounds)
+    let l = c.loop-figure in
+    let fs = c.args.figures.now in
+    let ls = c.args.limits.now in
+    let g = length l.yielded in
+    let t = zip_turn fs ls l.yielded c.into_iter-figure-iterator.result l.figure-iterator c.next.new.self c.next.result (cc) (cc) l.yielded_by (c.in-Some.figure, c.in-Some.limit) c.in-Some.is c.next.ensures.steps in
+    let lines : graph_lines c.in-Some.limit.now c.in-Some.figure.now ≡ graph_lines (get_or ls g 0) (get_or fs g 0) = cc (t.2 0, t.3 0) in
+    room (graph_lines c.in-Some.limit.now c.in-Some.figure.now) l.invariant.0
+    (fit fs ls c.args.part.now g c.in-Some.limit.now c.in-Some.figure.now t.0 lines c.requires.limits_in_bounds)
 
-pub overflow_add-at : goal.overflow_add-at
-overflow_add-at c =
-    let l = c.loop-g in
-    omega (arith, l.invariant.2.size, c.put_lines-at.ensures.size, fit c.args.figures c.args.limits c.args.part.now c.args.graphs l.g (omega arith) c.requires.graphs_bound (omega arith) c.requires.limits_in_bounds, c.well_formed.0.0)
-
-pub overflow_add-g : goal.overflow_add-g
-overflow_add-g c = omega arith
-
-pub loop-g-smaller : goal.loop-g-smaller
-loop-g-smaller c = omega arith
-
-pub loop-g-preserved : goal.loop-g-preserved
-loop-g-preserved c =
-    let l = c.loop-g in
-    let f = fit c.args.figures c.args.limits c.args.part.now c.args.graphs l.g (omega arith) c.requires.graphs_bound (omega arith) c.requires.limits_in_bounds in
-    let q = c.put_lines-at.ensures in
-    (omega arith, keeps (graph_lines (get_or c.args.limits l.g 0) (get_or c.args.figures l.g 0)) l.invariant.2 f q, named (graph_more c.args.figures c.args.limits c.args.graphs l.g (omega arith) (omega arith)) (both (graph_lines (get_or c.args.limits l.g 0) (get_or c.args.figures l.g 0)) l.invariant.2 f q))
-
-pub returns : goal.returns
-returns c =
-    let l = c.loop-g in
-    let all : l.g ≡ c.args.graphs = omega arith in
-    named (ap (λ (k : ℕ). margin_lines (take k c.args.figures) (take c.args.graphs c.args.limits)) all) l.invariant.2
+pub loop-figure-preserved : goal.loop-figure-preserved
+loop-figure-preserved c =
+    let l = c.loop-figure in
+    let fs = c.args.figures.now in
+    let ls = c.args.limits.now in
+    let g = length l.yielded in
+    let t = zip_turn fs ls l.yielded c.into_iter-figure-iterator.result l.figure-iterator c.next.new.self c.next.result (cc) (cc) l.yielded_by (c.in-Some.figure, c.in-Some.limit) c.in-Some.is c.next.ensures.steps in
+    let lines : graph_lines c.in-Some.limit.now c.in-Some.figure.now ≡ graph_lines (get_or ls g 0) (get_or fs g 0) = cc (t.2 0, t.3 0) in
+    let f = fit fs ls c.args.part.now g c.in-Some.limit.now c.in-Some.figure.now t.0 lines c.requires.limits_in_bounds in
+    rw (length_push l.yielded (c.in-Some.figure, c.in-Some.limit)) (
+      named (graph_more fs ls g t.0) (rw lines at (both (graph_lines c.in-Some.limit.now c.in-Some.figure.now) l.invariant.0 f c.put_lines-at.ensures)),
+      omega (arith, t.0),
+    )

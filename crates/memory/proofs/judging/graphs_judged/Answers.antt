@@ -1,73 +1,51 @@
--- `graphs_judged` meets its contract: at each turn the graphs from entry g on are to be judged, behind `total` nodes.
-use mathlib.Core.Path.{◌≡◌, refl, sym, ap, ◌∙◌}
-use Prim.Native.Nat.{◌+◌, ◌-◌, ◌*◌, ◌≤◌}
-use native.Mathlib.Omega.{arith}
-use lib.ListN.{get_or}
+-- `graphs_judged` meets its contract: at each turn the graphs from entry g-index on are to be judged, behind `total` nodes.
+use Rattle.std.proofs.Common.{◌≡◌, ◌+◌, ◌-◌, ◌*◌, ◌≤◌, length, get_or, arith, sym, ap, ◌∙◌}
+use Rattle.std.proofs.lemmas.Result.{err_from_is_err_and}
 use Rattle.schedule.specs.Limits as Limits
-use Rattle.writer.specs.Judging.{passes, graph_at, graphs_at}
-use Rattle.memory.specs.declared.plain.PhalandrixGraph.{PhalandrixGraph}
-use Rattle.memory.specs.Plain.{no_graph, graph_in, graphs_in}
-use Rattle.memory.specs.Judged.{judged_as, judged_of}
+use Rattle.writer.specs.Judging.{graphs_at}
+use Rattle.memory.specs.Plain.{no_graph, graphs_in}
+use Rattle.memory.specs.Judged.{judged_of}
 use Rattle.memory.proofs.JudgeLaws.{graph_passed, graphs_one, graphs_stop, graphs_none}
 use Rattle.memory.proofs.judging.graphs_judged.Goals as goal
+use Rattle.memory.proofs.judging.graphs_judged.Goals.{In_ok-graph_judged}
 
-pub overflow_add-at : goal.overflow_add-at
-overflow_add-at c = omega arith
-
-pub loop-g-init : goal.loop-g-init
-loop-g-init c =
-    let e : c.args.n - 0 ≡ c.args.n = omega arith in
-    (omega arith, omega arith, omega arith, rw e refl)
-
-pub offset_bounds-graph-g : goal.offset_bounds-graph-g
-offset_bounds-graph-g c = omega arith
-
-pub bounds-graph-g : goal.bounds-graph-g
-bounds-graph-g c = omega arith
-
-pub graph_judged-requires : goal.graph_judged-requires
-graph_judged-requires c = (omega arith, omega arith)
-
-pub returns-in-Refused : goal.returns-in-Refused
-returns-in-Refused c =
+-- what a graph that passes says of its count
+few : (c : In_ok-graph_judged) → ((get_or c.args.graphs.now c.loop-g.g-index no_graph).nodes ≤ (Limits.nodes).to) × (c.loop-g.total + (get_or c.args.graphs.now c.loop-g.g-index no_graph).nodes ≤ (Limits.all_nodes).to)
+few c =
     let st = c.loop-g in
-    sym (ap judged_of (st.invariant.3 ∙ graphs_stop c.args.graph c.args.nodes st.g c.args.n st.total st.at (omega arith) _
-    (sym (ap (judged_as _) c.in-Refused.is) ∙ c.graph_judged.ensures)))
+    graph_passed (get_or c.args.graphs.now st.g-index no_graph) c.args.nodes.now st.total st.line _ (rw c.in_ok-graph_judged.was at c.graph_judged.ensures)
 
-pub overflow_mul-at : goal.overflow_mul-at
-overflow_mul-at c = omega (arith, ((let it : (((let it : PhalandrixGraph = get_or c.args.graph c.loop-g.g no_graph in it)).nodes ≤ (Limits.nodes).to) × (c.loop-g.total + ((let it : PhalandrixGraph = get_or c.args.graph c.loop-g.g no_graph in it)).nodes ≤ (Limits.all_nodes).to) = graph_passed ((let it : PhalandrixGraph = get_or c.args.graph c.loop-g.g no_graph in it)) c.args.nodes c.loop-g.total _ _ ((let it : passes (c.loop-g.at + 3 + 3 * ((let it : PhalandrixGraph = get_or c.args.graph c.loop-g.g no_graph in it)).nodes) ≡ graph_at c.loop-g.total (graph_in c.args.nodes c.loop-g.total ((let it : PhalandrixGraph = get_or c.args.graph c.loop-g.g no_graph in it))) c.loop-g.at = sym (ap (judged_as _) c.in-Passes.is) ∙ c.graph_judged.ensures in it)) in it)).0)
+pub returns-in_err-graph_judged : goal.returns-in_err-graph_judged
+returns-in_err-graph_judged c =
+    let st = c.loop-g in
+    let p = err_from_is_err_and c.from_residual.result c.from_residual.ensures.1 in
+    rw (p.1, p.2) (sym (ap judged_of (st.invariant.left
+    ∙ graphs_stop c.args.graphs.now c.args.nodes.now st.g-index _ st.total st.line (omega arith) _ (rw c.in_err-graph_judged.was at c.graph_judged.ensures))))
 
-pub overflow_add-at-in-Passes : goal.overflow_add-at-in-Passes
-overflow_add-at-in-Passes c = omega (arith, ((let it : (((let it : PhalandrixGraph = get_or c.args.graph c.loop-g.g no_graph in it)).nodes ≤ (Limits.nodes).to) × (c.loop-g.total + ((let it : PhalandrixGraph = get_or c.args.graph c.loop-g.g no_graph in it)).nodes ≤ (Limits.all_nodes).to) = graph_passed ((let it : PhalandrixGraph = get_or c.args.graph c.loop-g.g no_graph in it)) c.args.nodes c.loop-g.total _ _ ((let it : passes (c.loop-g.at + 3 + 3 * ((let it : PhalandrixGraph = get_or c.args.graph c.loop-g.g no_graph in it)).nodes) ≡ graph_at c.loop-g.total (graph_in c.args.nodes c.loop-g.total ((let it : PhalandrixGraph = get_or c.args.graph c.loop-g.g no_graph in it))) c.loop-g.at = sym (ap (judged_as _) c.in-Passes.is) ∙ c.graph_judged.ensures in it)) in it)).0)
+pub overflow_mul-line : goal.overflow_mul-line
+overflow_mul-line c = omega (arith, few (goal.at.overflow_mul-line c).In_ok-graph_judged)
 
-pub overflow_add-at-in-Passes-2 : goal.overflow_add-at-in-Passes-2
-overflow_add-at-in-Passes-2 c = omega (arith, ((let it : (((let it : PhalandrixGraph = get_or c.args.graph c.loop-g.g no_graph in it)).nodes ≤ (Limits.nodes).to) × (c.loop-g.total + ((let it : PhalandrixGraph = get_or c.args.graph c.loop-g.g no_graph in it)).nodes ≤ (Limits.all_nodes).to) = graph_passed ((let it : PhalandrixGraph = get_or c.args.graph c.loop-g.g no_graph in it)) c.args.nodes c.loop-g.total _ _ ((let it : passes (c.loop-g.at + 3 + 3 * ((let it : PhalandrixGraph = get_or c.args.graph c.loop-g.g no_graph in it)).nodes) ≡ graph_at c.loop-g.total (graph_in c.args.nodes c.loop-g.total ((let it : PhalandrixGraph = get_or c.args.graph c.loop-g.g no_graph in it))) c.loop-g.at = sym (ap (judged_as _) c.in-Passes.is) ∙ c.graph_judged.ensures in it)) in it)).0)
+pub overflow_add-line-in-loop-g : goal.overflow_add-line-in-loop-g
+overflow_add-line-in-loop-g c = omega (arith, few (goal.at.overflow_add-line-in-loop-g c).In_ok-graph_judged)
 
-pub overflow_cast-total : goal.overflow_cast-total
-overflow_cast-total c = omega (arith, ((let it : (((let it : PhalandrixGraph = get_or c.args.graph c.loop-g.g no_graph in it)).nodes ≤ (Limits.nodes).to) × (c.loop-g.total + ((let it : PhalandrixGraph = get_or c.args.graph c.loop-g.g no_graph in it)).nodes ≤ (Limits.all_nodes).to) = graph_passed ((let it : PhalandrixGraph = get_or c.args.graph c.loop-g.g no_graph in it)) c.args.nodes c.loop-g.total _ _ ((let it : passes (c.loop-g.at + 3 + 3 * ((let it : PhalandrixGraph = get_or c.args.graph c.loop-g.g no_graph in it)).nodes) ≡ graph_at c.loop-g.total (graph_in c.args.nodes c.loop-g.total ((let it : PhalandrixGraph = get_or c.args.graph c.loop-g.g no_graph in it))) c.loop-g.at = sym (ap (judged_as _) c.in-Passes.is) ∙ c.graph_judged.ensures in it)) in it)).0)
-
-pub overflow_add-total : goal.overflow_add-total
-overflow_add-total c = omega (arith, ((let it : (((let it : PhalandrixGraph = get_or c.args.graph c.loop-g.g no_graph in it)).nodes ≤ (Limits.nodes).to) × (c.loop-g.total + ((let it : PhalandrixGraph = get_or c.args.graph c.loop-g.g no_graph in it)).nodes ≤ (Limits.all_nodes).to) = graph_passed ((let it : PhalandrixGraph = get_or c.args.graph c.loop-g.g no_graph in it)) c.args.nodes c.loop-g.total _ _ ((let it : passes (c.loop-g.at + 3 + 3 * ((let it : PhalandrixGraph = get_or c.args.graph c.loop-g.g no_graph in it)).nodes) ≡ graph_at c.loop-g.total (graph_in c.args.nodes c.loop-g.total ((let it : PhalandrixGraph = get_or c.args.graph c.loop-g.g no_graph in it))) c.loop-g.at = sym (ap (judged_as _) c.in-Passes.is) ∙ c.graph_judged.ensures in it)) in it)).1)
-
-pub overflow_add-g : goal.overflow_add-g
-overflow_add-g c = omega arith
-
-pub loop-g-smaller : goal.loop-g-smaller
-loop-g-smaller c = omega arith
+pub overflow_add-line-in-loop-g-2 : goal.overflow_add-line-in-loop-g-2
+overflow_add-line-in-loop-g-2 c = omega (arith, few (goal.at.overflow_add-line-in-loop-g-2 c).In_ok-graph_judged)
 
 pub loop-g-preserved : goal.loop-g-preserved
 loop-g-preserved c =
     let st = c.loop-g in
-    let x = (let it : PhalandrixGraph = get_or c.args.graph c.loop-g.g no_graph in it) in
-    let e : st.at + 3 + 3 * x.nodes ≡ st.at + (3 + 3 * x.nodes) = omega arith in (
-      omega arith,
-      omega (arith, ((let it : (((let it : PhalandrixGraph = get_or c.args.graph c.loop-g.g no_graph in it)).nodes ≤ (Limits.nodes).to) × (c.loop-g.total + ((let it : PhalandrixGraph = get_or c.args.graph c.loop-g.g no_graph in it)).nodes ≤ (Limits.all_nodes).to) = graph_passed ((let it : PhalandrixGraph = get_or c.args.graph c.loop-g.g no_graph in it)) c.args.nodes c.loop-g.total _ _ ((let it : passes (c.loop-g.at + 3 + 3 * ((let it : PhalandrixGraph = get_or c.args.graph c.loop-g.g no_graph in it)).nodes) ≡ graph_at c.loop-g.total (graph_in c.args.nodes c.loop-g.total ((let it : PhalandrixGraph = get_or c.args.graph c.loop-g.g no_graph in it))) c.loop-g.at = sym (ap (judged_as _) c.in-Passes.is) ∙ c.graph_judged.ensures in it)) in it)).1),
-      omega (arith, ((let it : (((let it : PhalandrixGraph = get_or c.args.graph c.loop-g.g no_graph in it)).nodes ≤ (Limits.nodes).to) × (c.loop-g.total + ((let it : PhalandrixGraph = get_or c.args.graph c.loop-g.g no_graph in it)).nodes ≤ (Limits.all_nodes).to) = graph_passed ((let it : PhalandrixGraph = get_or c.args.graph c.loop-g.g no_graph in it)) c.args.nodes c.loop-g.total _ _ ((let it : passes (c.loop-g.at + 3 + 3 * ((let it : PhalandrixGraph = get_or c.args.graph c.loop-g.g no_graph in it)).nodes) ≡ graph_at c.loop-g.total (graph_in c.args.nodes c.loop-g.total ((let it : PhalandrixGraph = get_or c.args.graph c.loop-g.g no_graph in it))) c.loop-g.at = sym (ap (judged_as _) c.in-Passes.is) ∙ c.graph_judged.ensures in it)) in it)).0),
-      st.invariant.3 ∙ graphs_one c.args.graph c.args.nodes st.g c.args.n st.total st.at (omega arith) (st.at + 3 + 3 * x.nodes) ((let it : passes (c.loop-g.at + 3 + 3 * ((let it : PhalandrixGraph = get_or c.args.graph c.loop-g.g no_graph in it)).nodes) ≡ graph_at c.loop-g.total (graph_in c.args.nodes c.loop-g.total ((let it : PhalandrixGraph = get_or c.args.graph c.loop-g.g no_graph in it))) c.loop-g.at = sym (ap (judged_as _) c.in-Passes.is) ∙ c.graph_judged.ensures in it))
-          ∙ ap (graphs_at (st.total + x.nodes) (graphs_in c.args.graph c.args.nodes (st.g + 1) (st.total + x.nodes) (c.args.n - (st.g + 1)))) e,
-    )
+    let x = get_or c.args.graphs.now st.g-index no_graph in
+    let f = few (goal.at.loop-g-preserved c).In_ok-graph_judged in
+    let e : st.line + 3 + 3 * x.nodes ≡ st.line + (3 + 3 * x.nodes) = omega arith in
+    record {
+      few = f.1;
+      near = omega (arith, f);
+      left = st.invariant.left
+          ∙ graphs_one c.args.graphs.now c.args.nodes.now st.g-index _ st.total st.line (omega arith) _ (rw c.in_ok-graph_judged.was at c.graph_judged.ensures)
+          ∙ ap (graphs_at (st.total + x.nodes) (graphs_in c.args.graphs.now c.args.nodes.now (st.g-index + 1) (st.total + x.nodes) (length c.args.graphs.now - (st.g-index + 1)))) e;
+    }
 
 pub returns : goal.returns
 returns c =
     let st = c.loop-g in
-    sym (ap judged_of (st.invariant.3 ∙ graphs_none c.args.graph c.args.nodes st.g c.args.n st.total st.at (omega arith)))
+    sym (ap judged_of (st.invariant.left ∙ graphs_none c.args.graphs.now c.args.nodes.now st.g-index _ st.total st.line (omega arith)))

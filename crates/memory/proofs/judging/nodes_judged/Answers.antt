@@ -1,57 +1,21 @@
--- `nodes_judged` meets its contract: at each turn the nodes from number own on are to be judged.
-use mathlib.Core.Path.{◌≡◌, refl, sym, ap, ◌∙◌}
-use Prim.Native.Nat.{suc, ◌+◌, ◌-◌, ◌*◌}
-use native.Mathlib.Omega.{arith}
-use Rattle.writer.specs.Judging.{passes}
-use Rattle.memory.specs.Judged.{judged_as}
+-- `nodes_judged` meets its contract: at each turn the nodes from number i + 1 on are to be judged.
+use Rattle.std.proofs.Common.{◌≡◌, ◌+◌, ◌*◌, length, arith, sym, ◌∙◌}
+use Rattle.std.proofs.lemmas.Result.{err_from_is_err_and}
 use Rattle.memory.proofs.JudgeLaws.{nodes_one, nodes_stop, nodes_none}
 use Rattle.memory.proofs.judging.nodes_judged.Goals as goal
 
-pub loop-own-init : goal.loop-own-init
-loop-own-init c =
-    let e : suc c.args.n - 1 ≡ c.args.n = omega arith in
-    (omega arith, omega arith, omega arith, omega arith, rw e refl)
+pub returns-in_err-node_judged : goal.returns-in_err-node_judged
+returns-in_err-node_judged c =
+    let i = c.loop-i.i in
+    let p = err_from_is_err_and c.from_residual.result c.from_residual.ensures.1 in
+    rw (p.1, p.2) (sym (c.loop-i.invariant
+    ∙ nodes_stop c.args.nodes.now i (c.args.line + 3 * i) (omega arith) _ (rw c.in_err-node_judged.was at c.node_judged.ensures)))
 
-pub offset_bounds-nodes-slot : goal.offset_bounds-nodes-slot
-offset_bounds-nodes-slot c = omega arith
-
-pub bounds-nodes-slot : goal.bounds-nodes-slot
-bounds-nodes-slot c = omega arith
-
-pub node_judged-requires : goal.node_judged-requires
-node_judged-requires c = (omega arith, omega arith, omega arith)
-
-pub returns-in-Refused : goal.returns-in-Refused
-returns-in-Refused c =
-    let st = c.loop-own in
-    sym (st.invariant.4 ∙ nodes_stop c.args.nodes st.slot c.args.n st.own st.at (omega arith) _
-    (sym (ap (judged_as (st.at + 3)) c.in-Refused.is) ∙ c.node_judged.ensures))
-
-pub overflow_add-at : goal.overflow_add-at
-overflow_add-at c = omega arith
-
-pub overflow_add-own : goal.overflow_add-own
-overflow_add-own c = omega arith
-
-pub overflow_add-slot : goal.overflow_add-slot
-overflow_add-slot c = omega arith
-
-pub loop-own-smaller : goal.loop-own-smaller
-loop-own-smaller c = omega arith
-
-pub loop-own-preserved : goal.loop-own-preserved
-loop-own-preserved c =
-    let st = c.loop-own in (
-      omega arith,
-      omega arith,
-      omega arith,
-      omega arith,
-      st.invariant.4 ∙ nodes_one c.args.nodes st.slot c.args.n st.own st.at (omega arith) (st.at + 3)
-          (sym (ap (judged_as (st.at + 3)) c.in-Passes.is) ∙ c.node_judged.ensures),
-    )
+pub loop-i-preserved : goal.loop-i-preserved
+loop-i-preserved c =
+    let i = c.loop-i.i in
+    let e : c.args.line + 3 * i + 3 ≡ c.args.line + 3 * (i + 1) = omega arith in
+    c.loop-i.invariant ∙ nodes_one c.args.nodes.now i (c.args.line + 3 * i) (omega arith) _ (rw (c.in_ok-node_judged.was, e) at c.node_judged.ensures)
 
 pub returns : goal.returns
-returns c =
-    let st = c.loop-own in
-    let e : c.args.line + 3 * c.args.n ≡ st.at = omega arith in
-    ap passes e ∙ sym (st.invariant.4 ∙ nodes_none c.args.nodes st.slot c.args.n st.own st.at (omega arith))
+returns c = let e : c.loop-i.i ≡ length c.args.nodes.now = omega arith in rw (← e) (sym (c.loop-i.invariant ∙ nodes_none c.args.nodes.now c.loop-i.i _ (omega arith)))

@@ -5,22 +5,24 @@ use Prim.Native.Nat.{ℕ, ◌+◌, ◌≤◌}
 use native.Mathlib.Omega.{arith}
 use lib.ListN.{length, length-append}
 use Rattle.format.specs.Bytes.{bytes, line_feed}
+use Rattle.salvaging.specs.Fixes.{fix}
 use Rattle.writing.specs.Line.{pair}
-use Rattle.writing.proofs.Writing.{named, begins, room, both}
+use Rattle.writing.proofs.Writing.{named, room, both}
+use Rattle.mending.specs.Kind.{number_of}
 use Rattle.mending.proofs.Lengths.{fix_is}
 use Rattle.mending.proofs.fixes.put_fix.Goals as goal
 
-pub put_bytes-at-requires : goal.put_bytes-at-requires
-put_bytes-at-requires c = omega (arith, (let it : length (bytes "fix=") + length ((let it : List ℕ = pair c.args.n c.args.kind line_feed in it)) ≤ length c.args.part.now = omega (arith, ap length (fix_is c.args.n c.args.kind), length-append (bytes "fix=") ((let it : List ℕ = pair c.args.n c.args.kind line_feed in it)), c.requires) in it))
+fit : (n k : ℕ) (part : List ℕ) → length (fix n k) ≤ length part → length (bytes "fix=") + length (pair n k line_feed) ≤ length part
+fit n k part h = omega (arith, ap length (fix_is n k), length-append (bytes "fix=") (pair n k line_feed))
 
-pub slice_bounds-put_pair-count : goal.slice_bounds-put_pair-count
-slice_bounds-put_pair-count c = begins ((let it : List ℕ = pair c.args.n c.args.kind line_feed in it)) c.put_bytes-at.ensures ((let it : length (bytes "fix=") + length ((let it : List ℕ = pair c.args.n c.args.kind line_feed in it)) ≤ length c.args.part.now = omega (arith, ap length (fix_is c.args.n c.args.kind), length-append (bytes "fix=") ((let it : List ℕ = pair c.args.n c.args.kind line_feed in it)), c.requires) in it))
+pub put_bytes-at-requires : goal.put_bytes-at-requires
+put_bytes-at-requires c = omega (arith, fit c.args.n (number_of c.args.kind) c.args.part.now c.requires)
 
 pub put_pair-requires : goal.put_pair-requires
-put_pair-requires c = room ((let it : List ℕ = pair c.args.n c.args.kind line_feed in it)) c.put_bytes-at.ensures ((let it : length (bytes "fix=") + length ((let it : List ℕ = pair c.args.n c.args.kind line_feed in it)) ≤ length c.args.part.now = omega (arith, ap length (fix_is c.args.n c.args.kind), length-append (bytes "fix=") ((let it : List ℕ = pair c.args.n c.args.kind line_feed in it)), c.requires) in it))
-
-pub overflow_add-result : goal.overflow_add-result
-overflow_add-result c = omega (arith, c.put_bytes-at.ensures.size, c.put_pair.ensures.size, (let it : length (bytes "fix=") + length ((let it : List ℕ = pair c.args.n c.args.kind line_feed in it)) ≤ length c.args.part.now = omega (arith, ap length (fix_is c.args.n c.args.kind), length-append (bytes "fix=") ((let it : List ℕ = pair c.args.n c.args.kind line_feed in it)), c.requires) in it), c.well_formed.0.0)
+put_pair-requires c =
+    rw c.number.ensures (room (pair c.args.n (number_of c.args.kind) line_feed) c.put_bytes-at.ensures (fit c.args.n (number_of c.args.kind) c.args.part.now c.requires))
 
 pub returns : goal.returns
-returns c = named (fix_is c.args.n c.args.kind) (both ((let it : List ℕ = pair c.args.n c.args.kind line_feed in it)) c.put_bytes-at.ensures ((let it : length (bytes "fix=") + length ((let it : List ℕ = pair c.args.n c.args.kind line_feed in it)) ≤ length c.args.part.now = omega (arith, ap length (fix_is c.args.n c.args.kind), length-append (bytes "fix=") ((let it : List ℕ = pair c.args.n c.args.kind line_feed in it)), c.requires) in it)) c.put_pair.ensures)
+returns c =
+    named (fix_is c.args.n (number_of c.args.kind))
+    (both (pair c.args.n (number_of c.args.kind) line_feed) c.put_bytes-at.ensures (fit c.args.n (number_of c.args.kind) c.args.part.now c.requires) (rw c.number.ensures at c.put_pair.ensures))

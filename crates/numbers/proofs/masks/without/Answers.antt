@@ -13,6 +13,3 @@ returns-then-has c =
     let a = c.args in
     let e = sym c.has.ensures ∙ c.if-has.true in
     rw (e, shifted_one a.k (bit_below a.mask a.k c.ranges.mask.fits e))
-
-pub returns-else-has : goal.returns-else-has
-returns-else-has c = rw (sym c.has.ensures ∙ c.if-has.false)

@@ -1,11 +1,10 @@
 -- `lcm_within` meets its contract: the product fits 64 bits.
 use mathlib.Core.Path.{◌≡◌, sym, ◌∙◌}
 use Prim.Native.Nat.{◌*◌, ◌/◌}
-use native.Mathlib.Nat.{div-zero, zero-mul, div-le_self, lt_of_le_of_lt}
+use native.Mathlib.Nat.{div-zero, zero-mul}
 use native.Mathlib.Omega.{arith}
 use borrow.Author.Tests.{le-leb, lt-leb}
 use Rattle.schedule.specs.Table as Rules
-use Rattle.numbers.proofs.Products.{product_fits}
 use Rattle.numbers.proofs.multiples.lcm_within.Goals as goal
 
 pub returns-then-g-eq0 : goal.returns-then-g-eq0
@@ -14,15 +13,6 @@ returns-then-g-eq0 c =
     let a = c.args in
     let z : Rules.gcd a.a a.b ≡ 0 = sym c.gcd-g.ensures ∙ c.if-g-eq0.true in
     rw (z, div-zero a.a, zero-mul a.b, le-leb 0 a.most (omega arith))
-
-pub overflow_cast-m : goal.overflow_cast-m
-overflow_cast-m c = let a = c.args in omega (arith, div-le_self a.a c.gcd-g.result)
-
-pub overflow_mul-m : goal.overflow_mul-m
-overflow_mul-m c =
-    let a = c.args in
-    let f = c.ranges in
-    record { fits = product_fits (lt_of_le_of_lt (div-le_self a.a c.gcd-g.result) f.a.fits) f.b.fits }
 
 pub returns-then-m-most : goal.returns-then-m-most
 unfolding Rules.lcm

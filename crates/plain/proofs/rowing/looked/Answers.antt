@@ -6,8 +6,8 @@ pub returns : goal.returns
 unfolding look_of
 returns c =
     rw (
-      c.end_by-end.ensures,
-      c.row_of-row.ensures,
+      c.from.ensures,
+      c.row_of.ensures,
       c.offsets_of-offsets.ensures,
       c.plan_of-plan.ensures,
       c.walked-w.ensures,

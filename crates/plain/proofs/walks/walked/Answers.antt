@@ -3,10 +3,6 @@ use mathlib.Core.Path.{◌∙◌}
 use Rattle.plainlaws.specs.Walks.{walk_of_table}
 use Rattle.plain.proofs.walks.walked.Goals as goal
 
-pub walk_to-requires : goal.walk_to-requires
-walk_to-requires c =
-    rw c.largest_offset-origin.ensures (c.requires.in_time, c.requires.hyper_some)
-
 pub returns : goal.returns
 unfolding walk_of_table
 returns c =

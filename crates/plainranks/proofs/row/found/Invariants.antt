@@ -1,12 +1,9 @@
 use mathlib.Core.Path.{◌≡◌}
-use Prim.Native.Nat.{◌-◌, ◌≤◌, ◌<◌}
-use Rattle.window.specs.Entries.{places}
-use Rattle.ledger.specs.Ranks.{found_to}
+use Rattle.window.specs.Entries.{nodes_of}
+use Rattle.ledger.specs.Ranks.{found_to, found}
 use Rattle.plainranks.proofs.row.found.Given as goal
 
-abbrev pub invariant-loop-i : goal.invariant-loop-i
-invariant-loop-i l =
-    (l.i ≤ l.n) × (l.x ≡ found_to l.offsets l.period l.level l.complete l.released l.n l.r l.i) × (l.x.place < places)
-
-abbrev pub decreases-loop-i : goal.decreases-loop-i
-decreases-loop-i l = l.n - l.i
+abbrev pub invariant-loop-place : goal.invariant-loop-place
+invariant-loop-place l =
+    found_to l.offsets l.plan.period l.plan.level l.l.complete l.l.released (nodes_of l.plan) l.r l.place
+    ≡ found l.offsets l.plan.period l.plan.level l.l.complete l.l.released (nodes_of l.plan) l.r

@@ -1,11 +1,7 @@
 use mathlib.Core.Path.{◌≡◌}
-use Prim.Native.Nat.{◌-◌, ◌≤◌}
+use Prim.Native.Nat.{◌≤◌}
 use Rattle.ledger.specs.Showing.{row_to}
 use Rattle.plainranks.proofs.row.row_of.Given as goal
 
 abbrev pub invariant-loop-r : goal.invariant-loop-r
-invariant-loop-r l =
-    (l.r ≤ l.p) × (l.row.count ≤ l.r) × (l.row ≡ row_to l.plan l.offsets l.l l.r)
-
-abbrev pub decreases-loop-r : goal.decreases-loop-r
-decreases-loop-r l = l.p - l.r
+invariant-loop-r l = (l.row.count ≤ l.r) × (l.row ≡ row_to l.plan l.offsets l.l l.r)

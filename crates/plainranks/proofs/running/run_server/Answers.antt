@@ -1,29 +1,26 @@
--- `run_server` meets its contract. The loop keeps: the server jobs up to k have run, or not.
-use Prim.Native.Nat.{◌-◌}
+-- `run_server` meets its contract. The loop keeps: the ticks used, after the ready server jobs up to k.
+use mathlib.Core.Path.{◌∙◌}
 use native.Mathlib.Omega.{arith}
-use Rattle.plainranks.proofs.RankLaws.{run_start, run_yes, run_no, run_end}
+use Rattle.window.specs.Entries.{nodes_of}
+use Rattle.plainranks.proofs.RankLaws.{run_start, run_yes, run_no}
 use Rattle.plainranks.proofs.running.run_server.Goals as goal
+use Rattle.plainranks.proofs.running.run_server.Goals.{then-rank-plan, else-rank-plan}
 
 pub loop-k-init : goal.loop-k-init
 loop-k-init c =
-    (omega arith, omega arith, run_start c.args.offsets.now c.args.period.now c.args.level.now c.args.complete.now c.args.released.now c.args.old.now c.args.n c.args.p c.args.i c.args.used.now)
-
-pub loop-k-preserved-then-rank-p : goal.loop-k-preserved-then-rank-p
-loop-k-preserved-then-rank-p c = (
-  omega (arith, c.loop-k.invariant.0),
-  omega (arith, c.loop-k.invariant.0, c.loop-k-test.true),
-  run_yes c.args.offsets.now c.args.period.now c.args.level.now c.args.complete.now c.args.released.now c.args.old.now c.args.n c.args.p c.args.i c.args.used.now c.loop-k.k c.loop-k.invariant.0 c.rank.ensures c.loop-k.invariant.2
-      c.if-rank-p.true c.slot-s.ensures.0 c.further.ensures,
-)
+    let plan = c.args.plan.now in
+    let o = c.args.offsets.now in
+    let l = c.args.l.now in
+    (omega arith, run_start o plan.period plan.level l.complete l.released l.used (nodes_of plan) plan.processors c.args.i c.args.used.now)
 
 pub loop-k-preserved : goal.loop-k-preserved
-loop-k-preserved c = (
-  omega (arith, c.loop-k.invariant.0),
-  omega (arith, c.loop-k.invariant.0, c.loop-k-test.true),
-  run_no c.args.offsets.now c.args.period.now c.args.level.now c.args.complete.now c.args.released.now c.args.old.now c.args.n c.args.p c.args.i c.args.used.now c.loop-k.k c.loop-k.invariant.0 c.rank.ensures c.loop-k.invariant.2 c.if-rank-p.false,
-)
-
-pub returns : goal.returns
-returns c =
-    run_end c.args.offsets.now c.args.period.now c.args.level.now c.args.complete.now c.args.released.now c.args.old.now c.args.n c.args.p c.args.i c.args.used.now c.ready_to-to.result c.loop-k.k c.ready_to-to.ensures c.loop-k.invariant.1 c.loop-k-test.false c.loop-k.invariant.0
-    c.loop-k.invariant.2
+loop-k-preserved c =
+    let plan = c.args.plan.now in
+    let o = c.args.offsets.now in
+    let l = c.args.l.now in (
+      omega (arith, c.last_ready-k-end.ensures),
+      elim c.if-rank-plan.branch [
+        | then-rank-plan w ↦ w.used-is ∙ run_yes o plan.period plan.level l.complete l.released l.used (nodes_of plan) plan.processors c.args.i c.args.used.now c.loop-k.k c.loop-k.auto.k c.rank.ensures c.loop-k.invariant.1 w.if-rank-plan.true w.slot-s.ensures.0 w.saturating_add.ensures
+        | else-rank-plan w ↦ w.used-is ∙ run_no o plan.period plan.level l.complete l.released l.used (nodes_of plan) plan.processors c.args.i c.args.used.now c.loop-k.k c.loop-k.auto.k c.rank.ensures c.loop-k.invariant.1 w.if-rank-plan.false
+      ],
+    )

@@ -1,14 +1,11 @@
 use mathlib.Core.Path.{◌≡◌}
 use Prim.Native.Nat.{◌-◌, ◌≤◌}
 use lib.ListN.{get_or}
-use Rattle.ledger.specs.Ranks.{ran_by}
+use Rattle.window.specs.Entries.{nodes_of}
+use Rattle.ledger.specs.Ranks.{ready_count, ran_by}
 use Rattle.plainranks.proofs.running.run_server.Given as goal
 
 abbrev pub invariant-loop-k : goal.invariant-loop-k
 invariant-loop-k l =
-    (get_or l.complete l.i 0 ≤ l.k)
-    × (l.k - get_or l.complete l.i 0 ≤ l.to - get_or l.complete l.i 0)
-    × (l.used ≡ ran_by l.offsets l.period l.level l.complete l.released l.old l.n l.p l.i l.initial.used (l.k - get_or l.complete l.i 0))
-
-abbrev pub decreases-loop-k : goal.decreases-loop-k
-decreases-loop-k l = l.to - l.k
+    (l.k - get_or l.l.complete l.i 0 ≤ ready_count l.offsets l.plan.period l.plan.level l.l.complete l.l.released l.i)
+    × (l.used ≡ ran_by l.offsets l.plan.period l.plan.level l.l.complete l.l.released l.l.used (nodes_of l.plan) l.plan.processors l.i l.initial.used (l.k - get_or l.l.complete l.i 0))

@@ -1,25 +1,24 @@
--- `same_slots` meets its contract. The loop keeps: the first i places are the same.
-use mathlib.Core.Path.{refl, sym, ◌∙◌}
-use mathlib.Core.Bool.{Bool, true}
-use Prim.Native.Nat.{ℕ, ◌-◌}
+-- `same_slots` meets its contract: the closure compares each place in turn.
+use mathlib.Core.Path.{◌∙◌}
+use mathlib.Core.Bool.{Bool}
+use mathlib.Core.List.{List}
+use Prim.Native.Nat.{ℕ}
 use native.Mathlib.Omega.{arith}
 use lib.ListN.{get_or}
-use Rattle.window.specs.Loops.{all_below}
-use Rattle.window.proofs.LoopLaws.{all_yes}
+use Rattle.std.proofs.Common.{rules, tests}
+use Rattle.std.proofs.lemmas.Iterator.{YieldsList-from_range}
+use Rattle.std.proofs.lemmas.Iterator.Search.{all_from_yields_List}
 use Rattle.ledger.specs.Forming.{same_pending}
-use Rattle.plainstates.proofs.StateLaws.{one_differs, each_same}
-use borrow.Author.Rules.{rules}
+use Rattle.window.proofs.Chains.{all_range}
 use Rattle.plainstates.proofs.comparing.same_slots.Goals as goal
 
-pub loop-i-init : goal.loop-i-init
-unfolding all_below
-loop-i-init c = (search rules, refl)
-
-pub returns-then-not-same_pending : goal.returns-then-not-same_pending
-returns-then-not-same_pending c = one_differs ((let it : ℕ → Bool = λ i. same_pending c.args.x.now c.args.y.now i (get_or c.args.pending.now i 0) in it)) _ refl c.loop-i.i (omega arith) (sym c.same_pending.ensures ∙ c.if-not-same_pending.true)
-
-pub loop-i-preserved : goal.loop-i-preserved
-loop-i-preserved c = (search rules, c.loop-i.invariant.1 ∙ all_yes ((let it : ℕ → Bool = λ i. same_pending c.args.x.now c.args.y.now i (get_or c.args.pending.now i 0) in it)) c.loop-i.i (sym c.same_pending.ensures ∙ c.if-not-same_pending.false))
+abbrev same_at : (x y pending : List ℕ) → ℕ → Bool
+same_at x y pending i = same_pending x y i (get_or pending i 0)
 
 pub returns : goal.returns
-returns c = each_same ((let it : ℕ → Bool = λ i. same_pending c.args.x.now c.args.y.now i (get_or c.args.pending.now i 0) in it)) _ refl _ c.loop-i.invariant.1 c.loop-i.invariant.0 c.loop-i-test.false
+returns c =
+    let x = c.args.x.now in
+    let y = c.args.y.now in
+    let pending = c.args.pending.now in
+    all_from_yields_List (same_at x y pending) _ _ c.all.result c.all.ensures.ran (YieldsList-from_range 0 c.args.n c.args.n (cc) (omega arith)) (λ i b q k. search (rules, tests))
+    ∙ all_range (same_at x y pending) c.args.n

@@ -1,11 +1,6 @@
 use mathlib.Core.Path.{◌≡◌}
-use Prim.Native.Nat.{◌-◌, ◌≤◌}
 use Rattle.ledger.specs.Forming.{form_to}
 use Rattle.plainstates.proofs.forming.form.Given as goal
 
 abbrev pub invariant-loop-i : goal.invariant-loop-i
-invariant-loop-i l =
-    (l.i ≤ l.n) × (l.f ≡ form_to l.plan l.offsets l.l l.t l.i)
-
-abbrev pub decreases-loop-i : goal.decreases-loop-i
-decreases-loop-i l = l.n - l.i
+invariant-loop-i l = l.f ≡ form_to l.plan l.offsets l.l l.t l.i

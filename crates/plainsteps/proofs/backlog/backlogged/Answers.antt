@@ -1,30 +1,26 @@
--- `backlogged` meets its contract. The loop keeps: none of the first i servers is overfull.
-use mathlib.Core.Path.{refl, sym, ◌∙◌}
-use mathlib.Core.Bool.{Bool, false}
-use Prim.Native.Nat.{ℕ, ◌-◌}
-use native.Mathlib.Nat.{le_antisymm}
+-- `backlogged` meets its contract: the closure tests each server in turn.
+use mathlib.Core.Path.{ap, ◌∙◌}
+use mathlib.Core.Bool.{Bool}
+use Prim.Native.Nat.{ℕ}
+use native.Mathlib.Omega.{arith}
 use lib.ListN.{get_or}
+use Rattle.std.proofs.Common.{rules, tests}
+use Rattle.std.proofs.lemmas.Iterator.{YieldsList-from_range}
+use Rattle.std.proofs.lemmas.Iterator.Search.{any_from_yields_List}
 use Rattle.window.specs.Loops.{some_below}
-use Rattle.window.proofs.LoopLaws.{some_found, some_no}
+use Rattle.window.specs.declared.Plan.{Plan}
+use Rattle.ledger.specs.declared.Ledger.{Ledger}
 use Rattle.ledger.specs.Releasing.{overfull}
-use borrow.Author.Rules.{rules}
+use Rattle.plainsteps.proofs.Ranges.{some_in_range}
 use Rattle.plainsteps.proofs.backlog.backlogged.Goals as goal
 
-pub loop-i-init : goal.loop-i-init
-unfolding some_below
-loop-i-init c = (search rules, refl)
-
-pub returns-then-overfull : goal.returns-then-overfull
-returns-then-overfull c =
-    some_found ((let it : ℕ → Bool = λ i.
-    overfull (get_or c.args.released.now i 0) (get_or c.args.complete.now i 0) (get_or c.args.finished.now i 0) (get_or c.args.room.now i 0) in it)) _ c.loop-i.i c.loop-i-test.true (sym c.overfull.ensures ∙ c.if-overfull.true)
-
-pub loop-i-preserved : goal.loop-i-preserved
-loop-i-preserved c = (
-  search rules,
-  c.loop-i.invariant.1 ∙ some_no ((let it : ℕ → Bool = λ i.
-      overfull (get_or c.args.released.now i 0) (get_or c.args.complete.now i 0) (get_or c.args.finished.now i 0) (get_or c.args.room.now i 0) in it)) c.loop-i.i (sym c.overfull.ensures ∙ c.if-overfull.false),
-)
+abbrev full : Plan → Ledger → ℕ → Bool
+full plan l i = overfull (get_or l.released i 0) (get_or l.complete i 0) (get_or l.finished i 0) (get_or plan.room i 0)
 
 pub returns : goal.returns
-returns c = rw (le_antisymm c.loop-i.invariant.0 c.loop-i-test.false) at c.loop-i.invariant.1
+returns c =
+    let plan = c.args.plan.now in
+    let l = c.args.l.now in
+    any_from_yields_List (full plan l) _ _ c.any.result c.any.ensures.ran (YieldsList-from_range 0 c.min-n.result c.min-n.result (cc) (omega arith)) (λ x b q k. search (rules, tests))
+    ∙ some_in_range (full plan l) c.min-n.result
+    ∙ ap (some_below (full plan l)) c.min-n.ensures

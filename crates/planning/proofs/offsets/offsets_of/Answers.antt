@@ -1,29 +1,21 @@
 -- `offsets_of` meets its contract. The loop's invariant: the first i offsets are at their places, and g is the graph of place i.
-use mathlib.Core.Path.{◌≡◌, refl, ap, ◌∙◌}
-use Prim.Native.Nat.{◌+◌, ◌-◌}
+use mathlib.Core.Path.{refl}
+use Prim.Native.Nat.{◌+◌}
 use native.Mathlib.Numerals.{add-one}
 use native.Mathlib.Omega.{arith}
 use Rattle.window.specs.Loops.{replaced}
 use Rattle.planning.specs.Graphs.{graph_to}
-use Rattle.planning.specs.Offsets.{offsets_to}
 use Rattle.planning.proofs.GraphLaws.{graph_in_lem, graph_next}
 use Rattle.planning.proofs.offsets.offsets_of.Goals as goal
 
 pub loop-i-init : goal.loop-i-init
 unfolding graph_to replaced
-loop-i-init c = (omega arith, omega arith, refl, refl)
+loop-i-init c = (omega arith, refl, refl)
 
 pub loop-i-preserved : goal.loop-i-preserved
 unfolding replaced
 loop-i-preserved c =
     let l = c.loop-i in
     let t = c.args.table in
-    let next = graph_next t l.i l.invariant.2 c.next_graph-g.ensures in
-    (omega arith, rw next (graph_in_lem t (l.i + 1)), next, rw (add-one l.i, ← l.invariant.3, ← l.invariant.2))
-
-pub returns : goal.returns
-returns c =
-    let l = c.loop-i in
-    let s = c.smaller-n in
-    let e : l.i ≡ s.result = omega arith in
-    l.invariant.3 ∙ ap (offsets_to c.args.table) (e ∙ s.ensures)
+    let next = graph_next t l.i l.invariant.1 c.next_graph-g.ensures in
+    (rw next (graph_in_lem t (l.i + 1)), next, rw (add-one l.i, ← l.invariant.2, ← l.invariant.1))

@@ -1,6 +1,6 @@
 -- `plan_of` meets its contract. The loop's invariant: the first i nodes are at their places, and g is the graph of place i.
-use mathlib.Core.Path.{◌≡◌, refl, ap, ◌∙◌}
-use Prim.Native.Nat.{ℕ, ◌+◌, ◌-◌}
+use mathlib.Core.Path.{◌≡◌, refl}
+use Prim.Native.Nat.{ℕ, ◌+◌}
 use native.Mathlib.Numerals.{add-one}
 use native.Mathlib.Omega.{arith}
 use lib.ListN.{get_or, set}
@@ -36,22 +36,14 @@ one_more_lem t p g i e f h k = rw (add-one i, h, k, f)
 
 pub loop-i-init : goal.loop-i-init
 unfolding plan_to graph_to replaced
-loop-i-init c = (omega arith, omega arith, refl, c.no_plan-p.ensures)
+loop-i-init c = (omega arith, refl, c.no_plan-p.ensures)
 
 pub loop-i-preserved : goal.loop-i-preserved
 loop-i-preserved c =
     let l = c.loop-i in
     let t = c.args.table in
-    let next = graph_next t l.i l.invariant.2 c.next_graph-g.ensures in (
-      omega arith,
+    let next = graph_next t l.i l.invariant.1 c.next_graph-g.ensures in (
       rw next (graph_in_lem t (l.i + 1)),
       next,
-      one_more_lem t l.p l.g l.i _ l.invariant.2 l.invariant.3 c.entry_of-e.ensures,
+      one_more_lem t l.p l.g l.i _ l.invariant.1 l.invariant.2 c.entry_of-e.ensures,
     )
-
-pub returns : goal.returns
-returns c =
-    let l = c.loop-i in
-    let s = c.smaller-n in
-    let e : l.i ≡ s.result = omega arith in
-    l.invariant.3 ∙ ap (plan_to c.args.table) (e ∙ s.ensures)

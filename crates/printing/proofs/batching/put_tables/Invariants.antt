@@ -1,10 +1,5 @@
-use Prim.Native.Nat.{◌-◌, ◌≤◌}
-use lib.ListN.{length}
 use Rattle.printing.proofs.Batches.{Put}
 use Rattle.printing.proofs.batching.put_tables.Given as goal
 
 abbrev pub invariant-loop-i : goal.invariant-loop-i
-invariant-loop-i l = Put l.lengths l.room l.initial.text l.text l.at l.i × (l.i ≤ length l.lengths)
-
-abbrev pub decreases-loop-i : goal.decreases-loop-i
-decreases-loop-i l = length l.lengths - l.i
+invariant-loop-i l = Put l.lengths l.room l.initial.text l.text l.at l.i

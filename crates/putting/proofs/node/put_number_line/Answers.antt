@@ -1,37 +1,21 @@
 -- `put_number_line` meets its contract: the number goes where the heading ended.
-use mathlib.Core.Path.{sym, subst}
-use mathlib.Core.List.{List}
-use Prim.Native.Nat.{ℕ, ◌+◌, ◌≤◌}
-use native.Mathlib.Omega.{arith}
-use lib.ListN.{length}
+use Rattle.std.proofs.Common.{List, ℕ, ◌+◌, ◌≤◌, length, sym, subst, arith}
 use Rattle.format.specs.Bytes.{line_feed}
+use Rattle.table.specs.Keys.{place}
 use Rattle.writing.specs.Line.{ended}
-use Rattle.putting.specs.Texts.{heading}
+use Rattle.putting.specs.Texts.{heading, number_line}
 use Rattle.putting.proofs.TextLaws.{number_parts}
-use Rattle.writing.proofs.Writing.{apart, named, begins, room, both}
+use Rattle.writing.proofs.Writing.{apart, named, room, both}
 use Rattle.putting.proofs.node.put_number_line.Goals as goal
 
-pub put_heading-at-requires : goal.put_heading-at-requires
-put_heading-at-requires c =
-    omega (arith, (let it : length ((let it : List ℕ = heading c.args.k in it)) + length ((let it : List ℕ = ended c.args.v line_feed in it)) ≤ length c.args.part.now = apart ((let it : List ℕ = heading c.args.k in it)) ((let it : List ℕ = ended c.args.v line_feed in it)) c.args.part.now (subst (λ (l : List ℕ). length l ≤ length c.args.part.now) (sym (number_parts c.args.k c.args.v)) c.requires) in it))
+fit : (k v : ℕ) (part : List ℕ) → length (number_line k v) ≤ length part → length (heading k) + length (ended v line_feed) ≤ length part
+fit k v part h = apart (heading k) (ended v line_feed) part (subst (λ (l : List ℕ). length l ≤ length part) (sym (number_parts k v)) h)
 
-pub slice_bounds-put_ended-count : goal.slice_bounds-put_ended-count
-slice_bounds-put_ended-count c =
-    let p = c.put_heading-at in
-    begins ((let it : List ℕ = ended c.args.v line_feed in it)) p.ensures ((let it : length ((let it : List ℕ = heading c.args.k in it)) + length ((let it : List ℕ = ended c.args.v line_feed in it)) ≤ length c.args.part.now = apart ((let it : List ℕ = heading c.args.k in it)) ((let it : List ℕ = ended c.args.v line_feed in it)) c.args.part.now (subst (λ (l : List ℕ). length l ≤ length c.args.part.now) (sym (number_parts c.args.k c.args.v)) c.requires) in it))
+pub put_heading-at-requires : goal.put_heading-at-requires
+put_heading-at-requires c = omega (arith, fit (place c.args.k) c.args.v c.args.part.now c.requires)
 
 pub put_ended-requires : goal.put_ended-requires
-put_ended-requires c =
-    let p = c.put_heading-at in
-    room ((let it : List ℕ = ended c.args.v line_feed in it)) p.ensures ((let it : length ((let it : List ℕ = heading c.args.k in it)) + length ((let it : List ℕ = ended c.args.v line_feed in it)) ≤ length c.args.part.now = apart ((let it : List ℕ = heading c.args.k in it)) ((let it : List ℕ = ended c.args.v line_feed in it)) c.args.part.now (subst (λ (l : List ℕ). length l ≤ length c.args.part.now) (sym (number_parts c.args.k c.args.v)) c.requires) in it))
-
-pub overflow_add-result : goal.overflow_add-result
-overflow_add-result c =
-    let p = c.put_heading-at in
-    let q = c.put_ended in
-    omega (arith, p.ensures.size, q.ensures.size, (let it : length ((let it : List ℕ = heading c.args.k in it)) + length ((let it : List ℕ = ended c.args.v line_feed in it)) ≤ length c.args.part.now = apart ((let it : List ℕ = heading c.args.k in it)) ((let it : List ℕ = ended c.args.v line_feed in it)) c.args.part.now (subst (λ (l : List ℕ). length l ≤ length c.args.part.now) (sym (number_parts c.args.k c.args.v)) c.requires) in it), c.well_formed.0.0)
+put_ended-requires c = room (ended c.args.v line_feed) c.put_heading-at.ensures (fit (place c.args.k) c.args.v c.args.part.now c.requires)
 
 pub returns : goal.returns
-returns c =
-    let p = c.put_heading-at in
-    named (number_parts c.args.k c.args.v) (both ((let it : List ℕ = ended c.args.v line_feed in it)) p.ensures ((let it : length ((let it : List ℕ = heading c.args.k in it)) + length ((let it : List ℕ = ended c.args.v line_feed in it)) ≤ length c.args.part.now = apart ((let it : List ℕ = heading c.args.k in it)) ((let it : List ℕ = ended c.args.v line_feed in it)) c.args.part.now (subst (λ (l : List ℕ). length l ≤ length c.args.part.now) (sym (number_parts c.args.k c.args.v)) c.requires) in it)) c.put_ended.ensures)
+returns c = named (number_parts (place c.args.k) c.args.v) (both (ended c.args.v line_feed) c.put_heading-at.ensures (fit (place c.args.k) c.args.v c.args.part.now c.requires) c.put_ended.ensures)

@@ -1,38 +1,19 @@
 -- `put_two` meets its contract: the second line begins where the first ended.
-use mathlib.Core.Path.{sym, subst}
-use mathlib.Core.List.{List}
-use Prim.Native.Nat.{ℕ, ◌+◌, ◌≤◌}
-use native.Mathlib.Omega.{arith}
-use lib.ListN.{length}
-use Rattle.putting.specs.Texts.{number_line}
+use Rattle.std.proofs.Common.{List, ℕ, ◌+◌, ◌≤◌, length, sym, subst, arith}
+use Rattle.table.specs.Keys.{place}
+use Rattle.putting.specs.Texts.{number_line, two_lines}
 use Rattle.putting.proofs.TextLaws.{two_parts}
-use Rattle.writing.proofs.Writing.{apart, named, begins, room, both}
+use Rattle.writing.proofs.Writing.{apart, named, room, both}
 use Rattle.putting.proofs.node.put_two.Goals as goal
 
-pub overflow_add-next : goal.overflow_add-next
-overflow_add-next c = omega arith
+fit : (i a j b : ℕ) (part : List ℕ) → length (two_lines i a j b) ≤ length part → length (number_line i a) + length (number_line j b) ≤ length part
+fit i a j b part h = apart (number_line i a) (number_line j b) part (subst (λ (l : List ℕ). length l ≤ length part) (sym (two_parts i a j b)) h)
 
 pub put_number_line-at-requires : goal.put_number_line-at-requires
-put_number_line-at-requires c =
-    omega (arith, (let it : length ((let it : List ℕ = number_line c.args.k c.args.a in it)) + length ((let it : List ℕ = number_line (c.args.k + 1) c.args.b in it)) ≤ length c.args.part.now = apart ((let it : List ℕ = number_line c.args.k c.args.a in it)) ((let it : List ℕ = number_line (c.args.k + 1) c.args.b in it)) c.args.part.now (subst (λ (l : List ℕ). length l ≤ length c.args.part.now) (sym (two_parts c.args.k c.args.a c.args.b)) c.requires.1) in it))
-
-pub slice_bounds-put_number_line-count : goal.slice_bounds-put_number_line-count
-slice_bounds-put_number_line-count c =
-    let p = c.put_number_line-at in
-    begins ((let it : List ℕ = number_line (c.args.k + 1) c.args.b in it)) p.ensures ((let it : length ((let it : List ℕ = number_line c.args.k c.args.a in it)) + length ((let it : List ℕ = number_line (c.args.k + 1) c.args.b in it)) ≤ length c.args.part.now = apart ((let it : List ℕ = number_line c.args.k c.args.a in it)) ((let it : List ℕ = number_line (c.args.k + 1) c.args.b in it)) c.args.part.now (subst (λ (l : List ℕ). length l ≤ length c.args.part.now) (sym (two_parts c.args.k c.args.a c.args.b)) c.requires.1) in it))
+put_number_line-at-requires c = omega (arith, fit (place c.args.one.0) c.args.one.1 (place c.args.two.0) c.args.two.1 c.args.part.now c.requires)
 
 pub put_number_line-requires : goal.put_number_line-requires
-put_number_line-requires c =
-    let p = c.put_number_line-at in
-    room ((let it : List ℕ = number_line (c.args.k + 1) c.args.b in it)) p.ensures ((let it : length ((let it : List ℕ = number_line c.args.k c.args.a in it)) + length ((let it : List ℕ = number_line (c.args.k + 1) c.args.b in it)) ≤ length c.args.part.now = apart ((let it : List ℕ = number_line c.args.k c.args.a in it)) ((let it : List ℕ = number_line (c.args.k + 1) c.args.b in it)) c.args.part.now (subst (λ (l : List ℕ). length l ≤ length c.args.part.now) (sym (two_parts c.args.k c.args.a c.args.b)) c.requires.1) in it))
-
-pub overflow_add-result : goal.overflow_add-result
-overflow_add-result c =
-    let p = c.put_number_line-at in
-    let q = c.put_number_line in
-    omega (arith, p.ensures.size, q.ensures.size, (let it : length ((let it : List ℕ = number_line c.args.k c.args.a in it)) + length ((let it : List ℕ = number_line (c.args.k + 1) c.args.b in it)) ≤ length c.args.part.now = apart ((let it : List ℕ = number_line c.args.k c.args.a in it)) ((let it : List ℕ = number_line (c.args.k + 1) c.args.b in it)) c.args.part.now (subst (λ (l : List ℕ). length l ≤ length c.args.part.now) (sym (two_parts c.args.k c.args.a c.args.b)) c.requires.1) in it), c.well_formed.0.0)
+put_number_line-requires c = room (number_line (place c.args.two.0) c.args.two.1) c.put_number_line-at.ensures (fit (place c.args.one.0) c.args.one.1 (place c.args.two.0) c.args.two.1 c.args.part.now c.requires)
 
 pub returns : goal.returns
-returns c =
-    let p = c.put_number_line-at in
-    named (two_parts c.args.k c.args.a c.args.b) (both ((let it : List ℕ = number_line (c.args.k + 1) c.args.b in it)) p.ensures ((let it : length ((let it : List ℕ = number_line c.args.k c.args.a in it)) + length ((let it : List ℕ = number_line (c.args.k + 1) c.args.b in it)) ≤ length c.args.part.now = apart ((let it : List ℕ = number_line c.args.k c.args.a in it)) ((let it : List ℕ = number_line (c.args.k + 1) c.args.b in it)) c.args.part.now (subst (λ (l : List ℕ). length l ≤ length c.args.part.now) (sym (two_parts c.args.k c.args.a c.args.b)) c.requires.1) in it)) c.put_number_line.ensures)
+returns c = named (two_parts (place c.args.one.0) c.args.one.1 (place c.args.two.0) c.args.two.1) (both (number_line (place c.args.two.0) c.args.two.1) c.put_number_line-at.ensures (fit (place c.args.one.0) c.args.one.1 (place c.args.two.0) c.args.two.1 c.args.part.now c.requires) c.put_number_line.ensures)

@@ -5,32 +5,27 @@ use Prim.Native.Nat.{ℕ, ◌+◌, ◌≤◌}
 use native.Mathlib.Omega.{arith}
 use lib.ListN.{length}
 use Rattle.format.specs.Keys as Keys
-use Rattle.putting.specs.Texts.{three_lines, nodes_lines}
+use Rattle.memory.specs.declared.plain.PhalandrixNode.{PhalandrixNode}
+use Rattle.memory.specs.declared.plain.PhalandrixGraph.{PhalandrixGraph}
+use Rattle.putting.specs.Texts.{three_lines, nodes_lines, graph_lines}
 use Rattle.putting.proofs.TextLaws.{graph_parts}
-use Rattle.writing.proofs.Writing.{apart, named, begins, room, both}
+use Rattle.writing.proofs.Writing.{apart, named, room, both}
 use Rattle.putting.proofs.tables.put_graph.Goals as goal
 
-pub put_three-at-requires : goal.put_three-at-requires
-put_three-at-requires c =
-    (omega arith, omega (arith, (let it : length ((let it : List ℕ = three_lines Keys.period c.args.g.period c.args.g.offset c.args.g.nodes in it)) + length ((let it : List ℕ = nodes_lines c.args.nodes c.args.first c.args.g.nodes in it)) ≤ length c.args.part.now = apart ((let it : List ℕ = three_lines Keys.period c.args.g.period c.args.g.offset c.args.g.nodes in it)) ((let it : List ℕ = nodes_lines c.args.nodes c.args.first c.args.g.nodes in it)) c.args.part.now (subst (λ (l : List ℕ). length l ≤ length c.args.part.now) (sym (graph_parts c.args.g c.args.nodes c.args.first)) c.requires.1) in it)))
+fit : (g : PhalandrixGraph) (nodes : List PhalandrixNode) (part : List ℕ) → length (graph_lines g nodes 0) ≤ length part
+    → length (three_lines Keys.period g.period Keys.offset g.offset Keys.nodes g.nodes) + length (nodes_lines nodes 0 g.nodes) ≤ length part
+fit g nodes part h =
+    apart (three_lines Keys.period g.period Keys.offset g.offset Keys.nodes g.nodes) (nodes_lines nodes 0 g.nodes) part
+    (subst (λ (l : List ℕ). length l ≤ length part) (sym (graph_parts g nodes 0)) h)
 
-pub slice_bounds-put_nodes-count : goal.slice_bounds-put_nodes-count
-slice_bounds-put_nodes-count c =
-    let p = c.put_three-at in
-    begins ((let it : List ℕ = nodes_lines c.args.nodes c.args.first c.args.g.nodes in it)) p.ensures ((let it : length ((let it : List ℕ = three_lines Keys.period c.args.g.period c.args.g.offset c.args.g.nodes in it)) + length ((let it : List ℕ = nodes_lines c.args.nodes c.args.first c.args.g.nodes in it)) ≤ length c.args.part.now = apart ((let it : List ℕ = three_lines Keys.period c.args.g.period c.args.g.offset c.args.g.nodes in it)) ((let it : List ℕ = nodes_lines c.args.nodes c.args.first c.args.g.nodes in it)) c.args.part.now (subst (λ (l : List ℕ). length l ≤ length c.args.part.now) (sym (graph_parts c.args.g c.args.nodes c.args.first)) c.requires.1) in it))
+pub put_three-at-requires : goal.put_three-at-requires
+put_three-at-requires c = omega (arith, fit c.args.g c.args.nodes.now c.args.part.now c.requires.1)
 
 pub put_nodes-requires : goal.put_nodes-requires
 put_nodes-requires c =
-    let p = c.put_three-at in
-    (c.requires.0, room ((let it : List ℕ = nodes_lines c.args.nodes c.args.first c.args.g.nodes in it)) p.ensures ((let it : length ((let it : List ℕ = three_lines Keys.period c.args.g.period c.args.g.offset c.args.g.nodes in it)) + length ((let it : List ℕ = nodes_lines c.args.nodes c.args.first c.args.g.nodes in it)) ≤ length c.args.part.now = apart ((let it : List ℕ = three_lines Keys.period c.args.g.period c.args.g.offset c.args.g.nodes in it)) ((let it : List ℕ = nodes_lines c.args.nodes c.args.first c.args.g.nodes in it)) c.args.part.now (subst (λ (l : List ℕ). length l ≤ length c.args.part.now) (sym (graph_parts c.args.g c.args.nodes c.args.first)) c.requires.1) in it)))
-
-pub overflow_add-result : goal.overflow_add-result
-overflow_add-result c =
-    let p = c.put_three-at in
-    let q = c.put_nodes in
-    omega (arith, p.ensures.size, q.ensures.size, (let it : length ((let it : List ℕ = three_lines Keys.period c.args.g.period c.args.g.offset c.args.g.nodes in it)) + length ((let it : List ℕ = nodes_lines c.args.nodes c.args.first c.args.g.nodes in it)) ≤ length c.args.part.now = apart ((let it : List ℕ = three_lines Keys.period c.args.g.period c.args.g.offset c.args.g.nodes in it)) ((let it : List ℕ = nodes_lines c.args.nodes c.args.first c.args.g.nodes in it)) c.args.part.now (subst (λ (l : List ℕ). length l ≤ length c.args.part.now) (sym (graph_parts c.args.g c.args.nodes c.args.first)) c.requires.1) in it), c.well_formed.0.0)
+    rw c.requires.0 (room (nodes_lines c.args.nodes.now 0 c.args.g.nodes) c.put_three-at.ensures (fit c.args.g c.args.nodes.now c.args.part.now c.requires.1))
 
 pub returns : goal.returns
 returns c =
-    let p = c.put_three-at in
-    named (graph_parts c.args.g c.args.nodes c.args.first) (both ((let it : List ℕ = nodes_lines c.args.nodes c.args.first c.args.g.nodes in it)) p.ensures ((let it : length ((let it : List ℕ = three_lines Keys.period c.args.g.period c.args.g.offset c.args.g.nodes in it)) + length ((let it : List ℕ = nodes_lines c.args.nodes c.args.first c.args.g.nodes in it)) ≤ length c.args.part.now = apart ((let it : List ℕ = three_lines Keys.period c.args.g.period c.args.g.offset c.args.g.nodes in it)) ((let it : List ℕ = nodes_lines c.args.nodes c.args.first c.args.g.nodes in it)) c.args.part.now (subst (λ (l : List ℕ). length l ≤ length c.args.part.now) (sym (graph_parts c.args.g c.args.nodes c.args.first)) c.requires.1) in it)) c.put_nodes.ensures)
+    named (graph_parts c.args.g c.args.nodes.now 0)
+    (both (nodes_lines c.args.nodes.now 0 c.args.g.nodes) c.put_three-at.ensures (fit c.args.g c.args.nodes.now c.args.part.now c.requires.1) (rw c.requires.0 at c.put_nodes.ensures))

@@ -1,20 +1,17 @@
--- `node_at_lem` meets its contract: a node is its three lines.
-use mathlib.Core.Path.{sym, ◌∙◌, ap}
-use Prim.Native.Nat.{◌-◌}
-use Rattle.lines.specs.Numbered.{map_outcome, place_of, three_read_of}
+-- `node_at` meets its contract: a node is its three lines.
+use Rattle.std.proofs.Common.{sym, ◌∙◌, ap}
+use Rattle.std.proofs.lemmas.Result.{err_from_is_err_and}
+use Rattle.lines.specs.Numbered.{map_outcome, stands}
 use Rattle.reading.proofs.Runs.{row_of, node_three}
 use Rattle.reading.proofs.tables.node_at.Goals as goal
 
-pub returns-in-Refused : goal.returns-in-Refused
-returns-in-Refused c =
-    let a = c.args in
-    let s = a.s.now in
-    let P = place_of s a.place in
-    ap (map_outcome row_of) (sym (ap (three_read_of s) c.in-Refused.is) ∙ c.three_at.ensures) ∙ sym (node_three a.own P)
+pub returns-in_err-t : goal.returns-in_err-t
+returns-in_err-t c =
+    let p = err_from_is_err_and c.from_residual.result c.from_residual.ensures.1 in
+    let three = c.in_err-t.ensures.read in
+    rw (p.1, p.2) (record { came = ap (map_outcome row_of) three.came ∙ sym (node_three c.args.own (stands c.args.lines.now)); text = three.text })
 
-pub returns-in-Values : goal.returns-in-Values
-returns-in-Values c =
-    let a = c.args in
-    let s = a.s.now in
-    let P = place_of s a.place in
-    ap (map_outcome row_of) (sym (ap (three_read_of s) c.in-Values.is) ∙ c.three_at.ensures) ∙ sym (node_three a.own P)
+pub returns : goal.returns
+returns c =
+    let three = c.in_ok-t.ensures.read in
+    record { came = ap (map_outcome row_of) three.came ∙ sym (node_three c.args.own (stands c.args.lines.now)); text = three.text }

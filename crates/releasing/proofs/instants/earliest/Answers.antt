@@ -1,25 +1,14 @@
--- `earliest` meets its contract. The loop keeps: `least` is the earliest of the first i.
-use mathlib.Core.Path.{refl, ◌∙◌}
-use native.Mathlib.Nat.{le_antisymm}
+-- `earliest` meets its contract. The loop keeps: `least` is the earliest of the first instants.
+use mathlib.Core.Path.{refl}
 use Rattle.window.specs.Releasing.{earliest}
-use Rattle.releasing.proofs.ReleaseLaws.{earliest_now, earliest_before}
-use borrow.Author.Rules.{rules}
+use Rattle.releasing.proofs.ReleaseLaws.{earliest_more}
 use Rattle.releasing.proofs.instants.earliest.Goals as goal
-use Rattle.releasing.proofs.instants.earliest.Goals.{then-next-i, else-next-i}
 
-pub loop-i-init : goal.loop-i-init
+pub loop-instant-init : goal.loop-instant-init
 unfolding earliest
-loop-i-init c = (search rules, refl)
+loop-instant-init c = refl
 
-pub loop-i-preserved : goal.loop-i-preserved
-loop-i-preserved c =
-    let next = c.args.next.now in (
-      search rules,
-      elim c.if-next-i.branch [
-        | then-next-i w ↦ w.least-is ∙ earliest_now next c.loop-i.i c.loop-i.invariant.1 w.if-next-i.true
-        | else-next-i w ↦ w.least-is ∙ earliest_before next c.loop-i.i c.loop-i.invariant.1 w.if-next-i.false
-      ],
-    )
-
-pub returns : goal.returns
-returns c = rw (le_antisymm c.loop-i.invariant.0 c.loop-i-test.false) at c.loop-i.invariant.1
+pub loop-instant-preserved : goal.loop-instant-preserved
+loop-instant-preserved c =
+    let l = c.loop-instant in
+    earliest_more c.args.next.now c.args.n l.instant-index c.loop-instant-test.true l.invariant c.min-least.ensures

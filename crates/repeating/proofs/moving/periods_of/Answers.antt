@@ -2,7 +2,6 @@
 use mathlib.Core.Path.{refl}
 use Prim.Native.Nat.{ℕ}
 use lib.ListN.{get_or, replicate}
-use borrow.Author.Rules.{rules}
 use Rattle.schedule.specs.Limits as Limits
 use Rattle.table.specs.Fresh.{no_graph}
 use Rattle.window.specs.Loops.{replaced}
@@ -12,12 +11,9 @@ use Rattle.repeating.proofs.moving.periods_of.Goals as goal
 
 pub loop-g-init : goal.loop-g-init
 unfolding replaced
-loop-g-init c = (search rules, refl)
+loop-g-init c = refl
 
 pub loop-g-preserved : goal.loop-g-preserved
 loop-g-preserved c =
-    let A = c.args in (
-      search rules,
-      replaced_more (λ (i : ℕ). periods_in A.hyper (get_or A.graph i no_graph)) (replicate (Limits.graphs).to 0) c.loop-g.g c.loop-g.invariant.1
-          c.periods_in.ensures,
-    )
+    replaced_more (λ (i : ℕ). periods_in c.args.hyper (get_or c.args.graph i no_graph)) (replicate (Limits.graphs).to 0) c.loop-g.g c.loop-g.invariant
+    c.periods_in.ensures

@@ -1,5 +1,5 @@
 use mathlib.Core.Path.{◌≡◌}
-use Prim.Native.Nat.{ℕ, ◌-◌, ◌≤◌}
+use Prim.Native.Nat.{ℕ}
 use lib.ListN.{get_or, replicate}
 use Rattle.schedule.specs.Limits as Limits
 use Rattle.table.specs.Fresh.{no_graph}
@@ -8,9 +8,4 @@ use Rattle.repeating.specs.Moving.{periods_in}
 use Rattle.repeating.proofs.moving.periods_of.Given as goal
 
 abbrev pub invariant-loop-g : goal.invariant-loop-g
-invariant-loop-g l =
-    (l.g ≤ (Limits.graphs).to)
-    × (l.periods ≡ replaced (λ (i : ℕ). periods_in l.hyper (get_or l.graph i no_graph)) (replicate (Limits.graphs).to 0) l.g)
-
-abbrev pub decreases-loop-g : goal.decreases-loop-g
-decreases-loop-g l = (Limits.graphs).to - l.g
+invariant-loop-g l = l.periods ≡ replaced (λ (i : ℕ). periods_in l.hyper (get_or l.graph i no_graph)) (replicate (Limits.graphs).to 0) l.g

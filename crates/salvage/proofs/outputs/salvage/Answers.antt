@@ -19,10 +19,6 @@ returns-then-list-n c =
     short_list _ _ _ c.if-bytes.false (omega (arith, c.measured-n.ensures.text, c.if-n.false)) (omega (arith, c.measured-n.ensures.text, c.if-text-n.false))
     (omega (arith, c.measured-n.ensures.list, c.if-list-n.true))
 
-pub put_both-requires : goal.put_both-requires
-put_both-requires c =
-    record { bytes_len_bound = c.if-bytes.false; bytes_in_bounds = omega (arith, c.measured-n.ensures.text, c.if-text-n.false); bytes_in_bounds_2 = omega (arith, c.measured-n.ensures.list, c.if-list-n.false) }
-
 pub returns : goal.returns
 returns c =
     both_written _ _ _ c.if-bytes.false (omega (arith, c.measured-n.ensures.text, c.if-n.false)) (omega (arith, c.measured-n.ensures.text, c.if-text-n.false))

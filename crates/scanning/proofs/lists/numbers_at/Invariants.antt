@@ -6,8 +6,8 @@ use Rattle.scanning.specs.Masks.{entries}
 use Rattle.scanning.specs.Positions.{map_scan}
 use Rattle.scanning.proofs.lists.numbers_at.Given as goal
 
-abbrev pub invariant-loop-w : goal.invariant-loop-w
-invariant-loop-w l = map_scan (entries l.range l.own l.initial.l) (numbers (drop l.initial.p l.s)) ≡ map_scan (entries l.range l.own l.l) (numbers (drop l.p l.s))
+abbrev pub invariant-loop-v : goal.invariant-loop-v
+invariant-loop-v l = map_scan (entries l.range l.own l.initial.l) (numbers (drop l.initial.p l.s)) ≡ map_scan (entries l.range l.own l.l) (numbers (drop l.p l.s))
 
-abbrev pub decreases-loop-w : goal.decreases-loop-w
-decreases-loop-w l = length l.s - l.p
+abbrev pub decreases-loop-v : goal.decreases-loop-v
+decreases-loop-v l = length l.s - l.p

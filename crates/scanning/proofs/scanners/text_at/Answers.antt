@@ -1,29 +1,25 @@
 -- `text_at` meets its contract: at each turn the text still to be found stands against the bytes from p on.
-use mathlib.Core.Path.{refl, sym, ◌∙◌}
-use Prim.Native.Nat.{◌-◌}
-use native.Mathlib.Omega.{arith}
-use lib.ListN.{drop}
-use borrow.Author.Rules.{rules}
-use Rattle.scanning.proofs.ScannerLaws.{rest_past, rest_other, rest_same, rest_found}
+use Rattle.std.proofs.Common.{◌+◌, drop, sym, ◌∙◌, ap, arith}
+use Rattle.std.proofs.lemmas.Result.{err_from_is_err_and}
+use Rattle.format.specs.Spelling.{Scan, ◌⟫◌, text}
+use Rattle.scanning.proofs.ScannerLaws.{text_step, text_done}
 use Rattle.scanning.proofs.scanners.text_at.Goals as goal
 
-pub loop-i-init : goal.loop-i-init
-loop-i-init c = (search rules, refl)
+pub returns-in_err-p : goal.returns-in_err-p
+returns-in_err-p c =
+    let t = c.args.t.now in
+    let i = c.loop-b.b-index in
+    let p = err_from_is_err_and c.from_residual.result c.from_residual.ensures.1 in
+    rw (p.1, p.2)
+    (sym (c.loop-b.invariant ∙ text_step t (drop c.loop-b.p c.args.s.now) i (omega arith)
+    ∙ ap (λ (x : Scan (Unit {0})). x ⟫ (λ u rest. text (drop (i + 1) t) rest)) (sym c.in_err-p.ensures)))
 
-pub returns-then-s-p : goal.returns-then-s-p
-returns-then-s-p c =
-    sym (c.loop-i.invariant.1 ∙ rest_past c.args.t c.args.s.now c.args.n c.loop-i.i c.loop-i.p (omega arith) (omega arith) c.if-s-p.true)
-
-pub returns-then-s-p-2 : goal.returns-then-s-p-2
-returns-then-s-p-2 c =
-    sym (c.loop-i.invariant.1 ∙ rest_other c.args.t c.args.s.now c.args.n c.loop-i.i c.loop-i.p (omega arith) (omega arith) (omega arith) c.if-s-p-2.true)
-
-pub loop-i-preserved : goal.loop-i-preserved
-loop-i-preserved c = (
-  search rules,
-  c.loop-i.invariant.1 ∙ rest_same c.args.t c.args.s.now c.args.n c.loop-i.i c.loop-i.p (omega arith) (omega arith) (omega arith) c.if-s-p-2.false,
-)
+pub loop-b-preserved : goal.loop-b-preserved
+loop-b-preserved c =
+    let t = c.args.t.now in
+    let i = c.loop-b.b-index in
+    c.loop-b.invariant ∙ text_step t (drop c.loop-b.p c.args.s.now) i (omega arith)
+    ∙ ap (λ (x : Scan (Unit {0})). x ⟫ (λ u rest. text (drop (i + 1) t) rest)) (sym c.in_ok-p.ensures)
 
 pub returns : goal.returns
-returns c =
-    sym (c.loop-i.invariant.1 ∙ rest_found c.args.t (drop c.loop-i.p c.args.s.now) c.args.n c.loop-i.i (omega arith))
+returns c = sym (c.loop-b.invariant ∙ text_done c.args.t.now (drop c.loop-b.p c.args.s.now) c.loop-b.b-index c.loop-b-test.false)

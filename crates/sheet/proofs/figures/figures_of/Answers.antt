@@ -1,9 +1,6 @@
 -- `figures_of` meets its contract. The loop keeps: the first g figures are taken over.
 use mathlib.Core.Path.{refl, ap, ◌∙◌}
-use Prim.Native.Nat.{◌-◌}
-use native.Mathlib.Nat.{le_antisymm}
 use lib.ListN.{replicate}
-use borrow.Author.Rules.{rules}
 use Rattle.schedule.specs.Limits as Limits
 use Rattle.window.specs.Loops.{replaced}
 use Rattle.window.proofs.LoopLaws.{replaced_more}
@@ -12,14 +9,9 @@ use Rattle.sheet.proofs.figures.figures_of.Goals as goal
 
 pub loop-g-init : goal.loop-g-init
 unfolding replaced
-loop-g-init c = (search rules, refl)
+loop-g-init c = refl
 
 pub loop-g-preserved : goal.loop-g-preserved
-loop-g-preserved c = (
-  search rules,
-  replaced_more (figure_in c.args.graph c.args.worst) (replicate (Limits.graphs).to 0) c.loop-g.g c.loop-g.invariant.1
-      (c.worst_at.ensures ∙ ap (worst_at c.args.worst) c.sink_of.ensures),
-)
-
-pub returns : goal.returns
-returns c = rw (le_antisymm c.loop-g.invariant.0 c.loop-g-test.false) at c.loop-g.invariant.1
+loop-g-preserved c =
+    replaced_more (figure_in c.args.graph c.args.worst) (replicate (Limits.graphs).to 0) c.loop-g.g c.loop-g.invariant
+    (c.worst_at.ensures ∙ ap (worst_at c.args.worst) c.sink_of.ensures)

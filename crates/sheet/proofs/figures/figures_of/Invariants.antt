@@ -1,5 +1,4 @@
 use mathlib.Core.Path.{◌≡◌}
-use Prim.Native.Nat.{◌-◌, ◌≤◌}
 use lib.ListN.{replicate}
 use Rattle.schedule.specs.Limits as Limits
 use Rattle.window.specs.Loops.{replaced}
@@ -7,7 +6,4 @@ use Rattle.sheet.specs.Figures.{figure_in}
 use Rattle.sheet.proofs.figures.figures_of.Given as goal
 
 abbrev pub invariant-loop-g : goal.invariant-loop-g
-invariant-loop-g l = (l.g ≤ (Limits.graphs).to) × (l.f ≡ replaced (figure_in l.graph l.worst) (replicate (Limits.graphs).to 0) l.g)
-
-abbrev pub decreases-loop-g : goal.decreases-loop-g
-decreases-loop-g l = (Limits.graphs).to - l.g
+invariant-loop-g l = l.f ≡ replaced (figure_in l.graph l.worst) (replicate (Limits.graphs).to 0) l.g

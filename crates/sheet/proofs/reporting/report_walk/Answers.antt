@@ -1,16 +1,13 @@
--- `report_walk` meets its contract, by how the walk ended.
-use mathlib.Core.Path.{◌∙◌}
+-- `report_walk` meets its contract: a walk that did not settle is refused as the rules refuse it.
+use mathlib.Core.Path.{sym, ap, ◌∙◌}
+use Rattle.std.proofs.lemmas.Result.{err_from_is_err_and}
+use Rattle.rules.specs.Answers.{call_of}
 use Rattle.sheet.proofs.CallLaws.{refused_call}
+use Rattle.sheet.proofs.Reports.{unsettled_report}
 use Rattle.sheet.proofs.reporting.report_walk.Goals as goal
 
-pub returns-in-Settled : goal.returns-in-Settled
-returns-in-Settled c = rw c.in-Settled.is (c.put_settled.ensures ∙ rw c.figures_of.ensures)
-
-pub returns-in-Backlog : goal.returns-in-Backlog
-returns-in-Backlog c = rw c.in-Backlog.is (refused_call _ _)
-
-pub returns-in-Unsettled : goal.returns-in-Unsettled
-returns-in-Unsettled c = rw c.in-Unsettled.is (refused_call _ _)
-
-pub returns-in-Reached : goal.returns-in-Reached
-returns-in-Reached c = rw c.in-Reached.is (refused_call _ _)
+pub returns-in_err-round : goal.returns-in_err-round
+returns-in_err-round c =
+    let p = err_from_is_err_and c.from_residual.result c.from_residual.ensures.1 in
+    rw (p.1, p.2)
+    (refused_call _ _ ∙ ap (call_of _) (sym (unsettled_report _ _ _ _ (sym c.round_of.ensures ∙ c.in_err-round.was))))

@@ -7,7 +7,7 @@ use lib.Seq.{append_snoc}
 use Rattle.format.specs.Bytes.{equals, line_feed}
 use Rattle.writing.specs.Line.{ended, line}
 use Rattle.writing.specs.Written.{Written}
-use Rattle.writing.proofs.Writing.{named, then_byte, begins, room, both}
+use Rattle.writing.proofs.Writing.{named, then_byte, both}
 use Rattle.writing.proofs.line.put_line.Goals as goal
 
 module _ {name part t : List ℕ} {n : ℕ} (v : ℕ) (w : Written name part t n) (fit : length (line name v) ≤ length part) where
@@ -16,31 +16,6 @@ module _ {name part t : List ℕ} {n : ℕ} (v : ℕ) (w : Written name part t n
 
   fit-both : length (name ++ (equals ∷ [])) + length (ended v line_feed) ≤ length part
   fit-both = omega (arith, length-append name (equals ∷ []), length-append name (equals ∷ ended v line_feed))
-
-pub put_bytes-n-requires : goal.put_bytes-n-requires
-put_bytes-n-requires c =
-    omega (arith, length-append c.args.name.now (equals ∷ ended c.args.v line_feed), c.requires)
-
-pub bounds-part-n : goal.bounds-part-n
-bounds-part-n c =
-    let p = c.put_bytes-n in
-    omega (arith, length-append c.args.name.now (equals ∷ ended c.args.v line_feed), c.requires, p.ensures.size, p.auto.part)
-
-pub slice_bounds-put_ended-count : goal.slice_bounds-put_ended-count
-slice_bounds-put_ended-count c =
-    let p = c.put_bytes-n in
-    begins (ended c.args.v line_feed) (with-equals c.args.v p.ensures c.requires) (fit-both c.args.v p.ensures c.requires)
-
-pub put_ended-requires : goal.put_ended-requires
-put_ended-requires c =
-    let p = c.put_bytes-n in
-    room (ended c.args.v line_feed) (with-equals c.args.v p.ensures c.requires) (fit-both c.args.v p.ensures c.requires)
-
-pub overflow_add-result : goal.overflow_add-result
-overflow_add-result c =
-    let p = c.put_bytes-n in
-    let e = c.put_ended.ensures in
-    omega (arith, (with-equals c.args.v p.ensures c.requires).size, e.size, fit-both c.args.v p.ensures c.requires, c.well_formed.0.0)
 
 pub returns : goal.returns
 returns c =

@@ -7,12 +7,6 @@ use Rattle.format.specs.Bytes.{decimal}
 use Rattle.writing.proofs.Counting.{digits_one, digits_more, digits_most}
 use Rattle.writing.proofs.number.+digits.Goals as goal
 
-pub digits-requires : goal.digits-requires
-digits-requires t c = (omega (arith, c.decreases), tt)
-
-pub overflow_add-result : goal.overflow_add-result
-overflow_add-result t c = omega (arith, c.digits.ensures.within)
-
 pub returns-then-v-lt10 : goal.returns-then-v-lt10
 returns-then-v-lt10 t c = record { size = sym (digits_one c.args.v c.if-v-lt10.true); within = omega arith }
 

@@ -8,12 +8,6 @@ use Rattle.writing.proofs.Counting.{digits_one, digits_more}
 use Rattle.writing.proofs.Writing.{nothing, named, then_byte}
 use Rattle.writing.proofs.number.+put_number.Goals as goal
 
-pub overflow_cast-part : goal.overflow_cast-part
-overflow_cast-part t c = omega arith
-
-pub overflow_add-part : goal.overflow_add-part
-overflow_add-part t c = omega arith
-
 pub bounds-part-0 : goal.bounds-part-0
 bounds-part-0 t c = omega (arith, digits_one c.args.v c.if-v-lt10.true, c.requires)
 
@@ -27,19 +21,9 @@ pub put_number-n-requires : goal.put_number-n-requires
 put_number-n-requires t c =
     (omega (arith, c.decreases), omega (arith, digits_more c.args.v (omega arith), c.requires))
 
-pub overflow_cast-part-2 : goal.overflow_cast-part-2
-overflow_cast-part-2 t c = omega arith
-
-pub overflow_add-part-2 : goal.overflow_add-part-2
-overflow_add-part-2 t c = omega arith
-
 pub bounds-part-n : goal.bounds-part-n
 bounds-part-n t c =
     omega (arith, digits_more c.args.v (omega arith), c.requires, c.put_number-n.ensures.size, c.put_number-n.auto.part)
-
-pub overflow_add-result : goal.overflow_add-result
-overflow_add-result t c =
-    omega (arith, digits_more c.args.v (omega arith), c.requires, c.put_number-n.ensures.size, c.well_formed.0.0)
 
 pub returns : goal.returns
 returns t c =

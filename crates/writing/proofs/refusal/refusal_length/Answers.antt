@@ -9,9 +9,6 @@ use Rattle.rules.specs.Answers.{answer_line, printed}
 use Rattle.writing.specs.Line.{line, placed}
 use Rattle.writing.proofs.refusal.refusal_length.Goals as goal
 
-pub overflow_add-result : goal.overflow_add-result
-overflow_add-result c = omega (arith, c.line_length.ensures.within, c.place_length.ensures.within)
-
 pub returns : goal.returns
 unfolding printed answer_line
 returns c =

@@ -1,12 +1,7 @@
-use mathlib.Core.Path.{◌≡◌}
-use Prim.Native.Nat.{◌-◌, ◌≤◌}
-use lib.ListN.{length, take}
+use lib.ListN.{take}
 use Rattle.rules.specs.Answers.{response_lines}
 use Rattle.writing.specs.Written.{Written}
 use Rattle.writing.proofs.report.put_responses.Given as goal
 
-abbrev pub invariant-loop-g : goal.invariant-loop-g
-invariant-loop-g l = (l.g ≤ l.graphs) × (length l.part ≡ length l.initial.part) × Written (response_lines (take l.g l.figures)) l.initial.part l.part l.at
-
-abbrev pub decreases-loop-g : goal.decreases-loop-g
-decreases-loop-g l = l.graphs - l.g
+abbrev pub invariant-loop-figure : goal.invariant-loop-figure
+invariant-loop-figure l = Written (response_lines (take l.figure-index l.figures)) l.initial.part l.part l.at

@@ -1,21 +1,11 @@
 -- `report_length` meets its contract.
 use mathlib.Core.List.{◌++◌}
 use native.Mathlib.Omega.{arith}
-use lib.ListN.{take, length-append}
+use lib.ListN.{length-append}
 use Rattle.format.specs.Bytes.{bytes}
 use Rattle.rules.specs.Answers.{answer_line, response_lines, report_text}
 use Rattle.writing.specs.Line.{line}
 use Rattle.writing.proofs.report.report_length.Goals as goal
-
-pub overflow_add-head : goal.overflow_add-head
-overflow_add-head c = omega (arith, c.line_length.ensures.within, c.line_length-2.ensures.within)
-
-pub overflow_add-head-2 : goal.overflow_add-head-2
-overflow_add-head-2 c = omega (arith, c.line_length.ensures.within, c.line_length-2.ensures.within, c.line_length-3.ensures.within)
-
-pub overflow_add-result : goal.overflow_add-result
-overflow_add-result c =
-    omega (arith, c.line_length.ensures.within, c.line_length-2.ensures.within, c.line_length-3.ensures.within, c.responses_length.ensures.within)
 
 pub returns : goal.returns
 unfolding report_text answer_line
@@ -24,7 +14,7 @@ returns c =
     let answer = line (bytes "answer") 0 in
     let round = line (bytes "round") a.round in
     let ticks = line (bytes "ticks") a.ticks in
-    let responses = response_lines (take a.graphs a.figures) in
+    let responses = response_lines a.figures.now in
     record {
       size = omega (
         arith,

@@ -4,18 +4,6 @@ use lib.ListN.{length-append}
 use Rattle.rules.specs.Answers.{row_text}
 use Rattle.writing.proofs.row.run_length.Goals as goal
 
-pub overflow_add-result : goal.overflow_add-result
-overflow_add-result c = omega (arith, c.digits.ensures.within)
-
-pub overflow_add-result-2 : goal.overflow_add-result-2
-overflow_add-result-2 c = omega (arith, c.digits.ensures.within, c.digits-2.ensures.within)
-
-pub overflow_add-result-3 : goal.overflow_add-result-3
-overflow_add-result-3 c = omega (arith, c.digits.ensures.within, c.digits-2.ensures.within, c.digits-3.ensures.within)
-
-pub overflow_add-result-4 : goal.overflow_add-result-4
-overflow_add-result-4 c = omega (arith, c.digits.ensures.within, c.digits-2.ensures.within, c.digits-3.ensures.within, c.digits-4.ensures.within)
-
 pub returns : goal.returns
 unfolding row_text
 returns c =

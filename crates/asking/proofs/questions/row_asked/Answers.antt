@@ -1,5 +1,0 @@
--- `row_asked` meets its contract.
-use Rattle.asking.proofs.questions.row_asked.Goals as goal
-
-pub returns-in-At : goal.returns-in-At
-returns-in-At c = rw c.in-At.is

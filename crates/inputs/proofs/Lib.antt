@@ -1,3 +1,0 @@
-pub mod AfterRead
-pub mod Whole
-pub mod Lengths

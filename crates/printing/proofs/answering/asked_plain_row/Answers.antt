@@ -1,5 +1,0 @@
--- `asked_plain_row` meets its contract: what the call promises of its answer.
-use Rattle.printing.proofs.answering.asked_plain_row.Goals as goal
-
-pub returns : goal.returns
-returns c = c.plain_row-r.ensures.call

@@ -1,8 +1,0 @@
--- `linked_now` meets its contract.
-use Rattle.releasing.proofs.due.linked_now.Goals as goal
-
-pub returns-then-due : goal.returns-then-due
-returns-then-due c = rw c.if-due.true
-
-pub returns-else-due : goal.returns-else-due
-returns-else-due c = rw c.if-due.false
