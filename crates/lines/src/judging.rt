@@ -4,14 +4,13 @@ ghost use Rattle.format.specs.Keys.{key_at};
 ghost use Rattle.format.specs.Spelling.{heading, number, list};
 ghost use Rattle.format.specs.Reading.{value_column, offending};
 ghost use Rattle.schedule.specs.WellFormed.{within};
-ghost use Rattle.table.specs.Keys.{place};
 ghost use Rattle.scanning.specs.Positions.{found_of};
 ghost use Rattle.scanning.specs.Masks.{mask_of, fair_list};
 ghost use Rattle.lines.specs.declared.judging.Fault.TheVariants.{Misspelled};
 ghost use Rattle.lines.specs.Lines.{same, always, predecessors, judge_by, closed, valued, line_judged, judged_of};
 
 use scanning::{Wrong, byte_at, fault_at, in_order, list_at, number_at, text_at};
-use table::Key;
+use table::{Key, Keyed};
 
 // Why a line does not pass: where its spelling goes wrong; or what is at fault in a value that is outside its limits or against the
 // predecessor rules. Each is a position.
@@ -30,25 +29,25 @@ impl From<Wrong> for Fault {
 }
 
 // The name of key k and `=`.
-pub fn heading_at(s: &[u8], at: usize, k: Key) -> Result<usize, Wrong>
-    ensures { found_of s.now result ≡ heading (key_at (place k)).name (drop at s.now) }
+pub fn heading_at<K: Keyed>(s: &[u8], at: usize, k: K) -> Result<usize, Wrong>
+    ensures { found_of s.now result ≡ heading (key_at (K.key_number k)).name (drop at s.now) }
 {
-    let p = text_at(s, at, k.name())?;
+    let p = text_at(s, at, k.key_name())?;
     byte_at(s, p, b'=')
 }
 
 // The column of a value of key k: behind the key's name and `=`.
-pub fn value_column(k: Key) -> u32
-    ensures { result ≡ value_column (place k) }
+pub fn value_column<K: Keyed>(k: K) -> u32
+    ensures { result ≡ value_column (K.key_number k) }
 {
-    let name = k.name();
+    let name = k.key_name();
     name.len() as u32 + 2
 }
 
-pub fn is_within(k: Key, v: u32) -> bool
-    ensures { result ≡ within (key_at (place k)).range v }
+pub fn is_within<K: Keyed>(k: K, v: u32) -> bool
+    ensures { result ≡ within (key_at (K.key_number k)).range v }
 {
-    k.range().contains(v)
+    k.key_range().contains(v)
 }
 
 // The LF behind a value v, which is fair or has a fault: also of one that is not fair, spelling is judged first. The value, a number or a
@@ -70,8 +69,8 @@ pub fn closed_at(
     }
 }
 
-pub fn number_value(s: &[u8], at: usize, k: Key) -> Result<(u32, usize), Fault>
-    ensures { judged_of s.now result ≡ judge_by same (within (key_at (place k)).range) (drop at s.now) (valued number (drop at s.now)) }
+pub fn number_value<K: Keyed>(s: &[u8], at: usize, k: K) -> Result<(u32, usize), Fault>
+    ensures { judged_of s.now result ≡ judge_by same (within (key_at (K.key_number k)).range) (drop at s.now) (valued number (drop at s.now)) }
 {
     let (v, p) = number_at(s, at)?;
     closed_at(s, p, v, is_within(k, v), at)
@@ -91,12 +90,13 @@ pub fn list_value(s: &[u8], at: usize, own: u32) -> Result<(u32, usize), Fault>
 }
 
 // The line of key k; of the key `after`, for node number own.
-pub fn line_from(s: &[u8], at: usize, k: Key, own: u32) -> Result<(u32, usize), Fault>
-    ensures { judged_of s.now result ≡ line_judged (place k) own (drop at s.now) }
+pub fn line_from<K: Keyed>(s: &[u8], at: usize, k: K, own: u32) -> Result<(u32, usize), Fault>
+    ensures { judged_of s.now result ≡ line_judged (K.key_number k) own (drop at s.now) }
 {
     let p = heading_at(s, at, k)?;
-    match k {
-        Key::After => list_value(s, p, own),
-        _ => number_value(s, p, k),
+    if k.is_after() {
+        list_value(s, p, own)
+    } else {
+        number_value(s, p, k)
     }
 }

@@ -3,12 +3,11 @@
 ghost use Rattle.std.specs.Prelude.{◌≡◌, ◌+◌, ◌<◌, ◌≤◌, ◌^◌, length, drop};
 ghost use Rattle.schedule.specs.Limits as Limits;
 ghost use Rattle.format.specs.Reading.{column_at};
-ghost use Rattle.table.specs.Keys.{place as row_of};
 ghost use Rattle.lines.specs.Numbered.{place_of, came_at, refusal_of, coded_line, three_lines};
 
 use crate::judging::{Fault, line_from};
 use format::Refusal;
-use table::Key;
+use table::Keyed;
 
 // Where reading stands: the number of the next line, and its position.
 #[derive(Clone, Copy)]
@@ -39,9 +38,9 @@ fn column(s: &[u8], place: Place, p: usize) -> u32
 }
 
 // The line of key k at a place does not pass. A value that is not fair is 4 of the key `after`, and 3 of the others.
-fn refusal(s: &[u8], place: Place, k: Key, fault: Fault) -> Refusal
+fn refusal<K: Keyed>(s: &[u8], place: Place, k: K, fault: Fault) -> Refusal
     requires { length s.now ≤ (Limits.table_bytes).to }
-    ensures { result ≡ refusal_of s.now place (row_of k) fault }
+    ensures { result ≡ refusal_of s.now place (K.key_number k) fault }
 {
     let line = place.line;
     match fault {
@@ -51,9 +50,10 @@ fn refusal(s: &[u8], place: Place, k: Key, fault: Fault) -> Refusal
         },
         Fault::Unfair(p) => {
             let column = column(s, place, p);
-            match k {
-                Key::After => Refusal::AgainstPredecessorRules { line, column },
-                _ => Refusal::OutsideLimits { line, column },
+            if k.is_after() {
+                Refusal::AgainstPredecessorRules { line, column }
+            } else {
+                Refusal::OutsideLimits { line, column }
             }
         }
     }
@@ -62,9 +62,9 @@ fn refusal(s: &[u8], place: Place, k: Key, fault: Fault) -> Refusal
 // The line of key k at a place; of the key `after`, for node number own. Its value, and the place behind it. (Inline, since at a key that the
 // compiler knows its name is compared at once.)
 #[inline]
-pub fn one_at(s: &[u8], place: Place, k: Key, own: u32) -> Result<(u32, Place), Refusal>
+pub fn one_at<K: Keyed>(s: &[u8], place: Place, k: K, own: u32) -> Result<(u32, Place), Refusal>
     requires { (place.line + 1 < 2 ^ 32) × (own ≤ (Limits.nodes).to) × (length s.now ≤ (Limits.table_bytes).to) }
-    ensures { came_at s.now result ≡ coded_line (row_of k) own (place_of s.now place) }
+    ensures { came_at s.now result ≡ coded_line (K.key_number k) own (place_of s.now place) }
 {
     match line_from(s, place.at, k, own) {
         Ok((v, at)) => {
@@ -76,16 +76,16 @@ pub fn one_at(s: &[u8], place: Place, k: Key, own: u32) -> Result<(u32, Place), 
 }
 
 // The lines of three keys from a place on, one behind the other; of the key `after`, for node number own.
-pub fn three_at(
+pub fn three_at<K: Keyed>(
     s: &[u8],
     place: Place,
-    one: Key,
-    two: Key,
-    three: Key,
+    one: K,
+    two: K,
+    three: K,
     own: u32,
 ) -> Result<(Three, Place), Refusal>
     requires { (place.line + 3 < 2 ^ 32) × (own ≤ (Limits.nodes).to) × (length s.now ≤ (Limits.table_bytes).to) }
-    ensures { came_at s.now result ≡ three_lines (row_of one) (row_of two) (row_of three) own (place_of s.now place) }
+    ensures { came_at s.now result ≡ three_lines (K.key_number one) (K.key_number two) (K.key_number three) own (place_of s.now place) }
 {
     let (first, p) = one_at(s, place, one, own)?;
     let (second, q) = one_at(s, p, two, own)?;

@@ -2,8 +2,12 @@
 // the functions that make an empty server and the fresh state.
 #![tactic(auto)]
 
-ghost use Rattle.std.specs.Prelude.{◌≡◌};
-ghost use Rattle.format.specs.Keys.{key_at};
+mod keyed;
+
+pub use keyed::Keyed;
+
+ghost use Rattle.std.specs.Prelude.{◌≡◌, ◌≤◌, length, MatchOption};
+ghost use Rattle.format.specs.Keys.{key_at, keys};
 ghost use Rattle.table.specs.Limits.{coded, limits, in_range};
 ghost use Rattle.table.specs.Keys.{place};
 ghost use Rattle.table.specs.Fresh.{empty_table, empty_server, fresh_state};
@@ -62,12 +66,31 @@ pub enum Key {
 
 // What the table of the keys has of one: its name, and the limits of its number (of `after`, of each number of its list).
 #[derive(Clone, Copy)]
-struct Entry {
-    name: &'static [u8],
-    range: Range,
+pub struct Entry {
+    pub name: &'static [u8],
+    pub range: Range,
 }
 
 impl Key {
+    // The key of a number, counted from 0 in the order of the keys.
+    pub fn numbered(k: usize) -> Option<Key>
+        ensures { MatchOption result (length keys ≤ k) (λ key. place key ≡ k) }
+    {
+        match k {
+            0 => Some(Key::Processors),
+            1 => Some(Key::Rounds),
+            2 => Some(Key::Graphs),
+            3 => Some(Key::Period),
+            4 => Some(Key::Offset),
+            5 => Some(Key::Nodes),
+            6 => Some(Key::Budget),
+            7 => Some(Key::Level),
+            8 => Some(Key::After),
+            9 => Some(Key::Limit),
+            _ => None,
+        }
+    }
+
     // Lent out of the constant: to copy an entry out of it, the compiler would build the whole table first.
     fn entry(self) -> &'static Entry
         ensures name { result.now.name.now ≡ (key_at (place self)).name }
@@ -394,6 +417,20 @@ impl Table {
             limit: Range {
                 from: Table::LIMIT_FROM,
                 to: Table::LIMIT_TO,
+            },
+        }
+    }
+
+    // What stands in the table of the keys at number k, counted from 0; past the last one, a key without a name.
+    pub fn key(k: usize) -> Entry
+        ensures name { result.name.now ≡ (key_at k).name }
+        ensures range { result.range ≡ coded (key_at k).range }
+    {
+        match Key::numbered(k) {
+            Some(key) => *key.entry(),
+            None => Entry {
+                name: b"",
+                range: Range { from: 0, to: 0 },
             },
         }
     }
