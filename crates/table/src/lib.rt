@@ -4,13 +4,13 @@
 
 mod keyed;
 
-pub use keyed::Keyed;
-
 ghost use Rattle.std.specs.Prelude.{◌≡◌, ◌≤◌, length, MatchOption};
 ghost use Rattle.format.specs.Keys.{key_at, keys};
 ghost use Rattle.table.specs.Limits.{coded, limits, in_range};
 ghost use Rattle.table.specs.Keys.{place};
 ghost use Rattle.table.specs.Fresh.{empty_table, empty_server, fresh_state};
+
+pub use keyed::Keyed;
 
 // From and to, both allowed.
 #[derive(Clone, Copy)]
