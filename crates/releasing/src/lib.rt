@@ -6,5 +6,6 @@ mod due;
 mod entering;
 mod instants;
 
-pub use entering::release;
-pub use instants::{any_full, earliest};
+pub use due::{all_fewer, linked_now};
+pub use entering::{new_key, release};
+pub use instants::{any_full, earliest, releases};
