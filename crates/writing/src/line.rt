@@ -6,11 +6,15 @@ ghost use Rattle.writing.specs.Line.{ended, pair, line};
 
 use crate::number::{digits, put_number};
 
+// Byte by byte: of `copy_from_slice` the compiler makes a call of memmove where the text may lie in `part`, for all that it knows; and the
+// library for C needs memcpy and memset alone.
 pub fn put_bytes(part: &mut [u8], text: &[u8]) -> usize
     requires { length text.now ≤ length part.old }
     ensures { Written text.now part.old part.new result }
 {
-    part[..text.len()].copy_from_slice(text);
+    for i in 0..text.len() {
+        part[i] = text[i];
+    }
     text.len()
 }
 
