@@ -126,6 +126,7 @@ fn instant_asked(rt: HostRuntime, i: usize) -> Result<u32, Fault> {
 // A word that is put into a room: nothing, where it is missing or longer than the room. A room too short for a word of the program is refused.
 fn word_asked(rt: HostRuntime, i: usize, room: &mut [u8]) -> &[u8]
     requires { longest_word ≤ length room.old }
+    ensures { length result.now ≤ length room.old }
 {
     let n = rt.arg(i, &mut *room).unwrap_or(0);
     &room[..n]
