@@ -10,7 +10,7 @@ use Rattle.asking.specs.declared.questions.Account.{Account}
 use Rattle.asking.specs.declared.questions.Asked.{Asked}
 use Rattle.asking.specs.declared.lengths.Lengths.{Lengths}
 use Rattle.asking.specs.Instants.{at_end, instant_of}
-use Rattle.asking.specs.Lengths.{is_number, no_lengths, lengths_by}
+use Rattle.asking.specs.Lengths.{is_number, no_lengths, spelled, lengths_by}
 
 -- the words
 abbrev pub row : List ℕ
@@ -55,7 +55,7 @@ batch_asked_by (Ok u) = Ok Asked.Batch
 batch_asked_by (Err f) = Err f
 
 abbrev pub batch_asked : Lengths → Result Asked Fault
-batch_asked s = batch_asked_by s.spelled
+batch_asked s = batch_asked_by (spelled s)
 
 abbrev pub plain_asked : List ℕ → Result Asked Fault
 plain_asked w = cond (is_word plain w) (Ok (Asked.Answer PlainReport)) (Err Misspelled)

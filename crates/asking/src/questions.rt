@@ -73,7 +73,7 @@ pub fn asked_by(account: &Account) -> Result<Asked, Fault>
     } = *account;
     match count {
         1 => Ok(Asked::Answer(Question::Report)),
-        _ if is_word(word, BATCH) => lengths.spelled.map(|()| Asked::Batch),
+        _ if is_word(word, BATCH) => lengths.spelled().map(|()| Asked::Batch),
         2 => output_asked(word),
         3 if is_word(word, ROW) => instant.map(|t| Asked::Answer(Question::Row(t))),
         3 if is_word(word, MARGIN) => Ok(Asked::Margin),
