@@ -1,6 +1,6 @@
 -- What the system tells of the arguments is enough to know what they ask.
 use Rattle.std.specs.Prelude.{Result, Ok, Err}
-use mathlib.Core.Path.{◌≡◌, refl, sym, ap, ◌∙◌}
+use mathlib.Core.Path.{◌≡◌, refl, sym, ◌∙◌}
 use mathlib.Core.Bool.{Bool, true, false, not, ◌&&◌, ◌||◌, cond}
 use mathlib.Core.List.{List, [], ◌∷◌, map}
 use Prim.Native.Nat.{ℕ, suc, ◌≤◌, ◌<◌}
@@ -101,6 +101,7 @@ fault_kept s Unread = both s.unread s.misspelled
     both false true = refl
     both false false = refl
 
+-- each room holds the longest word
 module _ (room second : ℕ) (l : longest_word ≤ room) (k : longest_word ≤ second) where
   by_output : (w : List ℕ) → output_asked (fitting room w) ≡ output_asked w
   by_output w = rw (in_its_room salvage (nothing _ _) room l w, in_its_room fixes (nothing _ _) room (omega arith) w, in_its_room rewrite (nothing _ _) room l w, in_its_room plain (nothing _ _) room (omega arith) w)
@@ -115,12 +116,14 @@ module _ (room second : ℕ) (l : longest_word ≤ room) (k : longest_word ≤ s
       let count : ℕ = suc (length (w ∷ t ∷ u ∷ v ∷ rest)) in
       rw (ne_eqb count 2 (λ e. omega arith), ne_eqb count 3 (λ e. omega arith), ne_eqb count 4 (λ e. omega arith))
 
-  by_what_is_told : (arguments : List (List ℕ)) (told : Account) → Told arguments room second told → asked told ≡ question_of arguments
-  by_what_is_told [] told t = rw t.counted
-  by_what_is_told (w ∷ ts) told t =
-      rw (t.counted, t.word, t.spelled, t.word_behind, t.spelled_behind, t.measured)
-      (rw (ne_eqb (suc (length (w ∷ ts))) 1 (λ e. omega arith), in_its_room batch (nothing _ _) room (omega arith) w, by_lengths ts, by_text w ts))
+  by_words : (w : List ℕ) (ts : List (List ℕ))
+      → cond (is_word batch (fitting room w)) (batch_asked (lengths_by no_lengths (map instant_of ts)))
+      (text_asked_by (suc (length (w ∷ ts))) (fitting room w) (instant_of (get_or (w ∷ ts) 1 [])) (fitting second (get_or (w ∷ ts) 1 [])) (instant_of (get_or (w ∷ ts) 2 [])))
+      ≡ question_of (w ∷ ts)
+  by_words w ts = rw (in_its_room batch (nothing _ _) room (omega arith) w, by_lengths ts, by_text w ts)
 
-pub asked_is : (arguments : List (List ℕ)) (room second : ℕ) (told : Account) → longest_word ≤ room → longest_word ≤ second → Told arguments room second told
-    → asked told ≡ question_of arguments
-asked_is arguments room second told l k t = by_what_is_told room second l k arguments told t
+pub asked_is : (arguments : List (List ℕ)) (told : Account) → Told arguments told → asked told ≡ question_of arguments
+asked_is [] told t = rw t.counted
+asked_is (w ∷ ts) told t =
+    rw (t.counted, t.word, t.spelled, t.word_behind, t.spelled_behind, t.measured, ne_eqb (suc (length (w ∷ ts))) 1 (λ e. omega arith))
+    (by_words (length told.word.room.now) (length told.second.room.now) told.word.wide told.second.wide w ts)
