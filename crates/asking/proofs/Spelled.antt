@@ -11,6 +11,7 @@ use Rattle.schedule.specs.Limits as Limits
 use Rattle.schedule.proofs.Tests.{by_lt}
 use Rattle.std.specs.Prelude.{Result, Ok, Err}
 use Rattle.asking.specs.declared.faults.Fault.{Fault}
+use Rattle.asking.specs.declared.faults.Fault.TheVariants.{Misspelled, Unread}
 use Rattle.asking.specs.declared.lengths.Lengths.{Lengths}
 use Rattle.asking.specs.Instants.{instant_of}
 use Rattle.asking.specs.Lengths.{number_in, no_lengths, count_on, lengths_on, lengths_by}
@@ -39,7 +40,8 @@ record Holds (s : Lengths) (p : List ℕ) : Type 0 where
 
 count_on_lem : (s : Lengths) (i : Result ℕ Fault) → (lengths_on s i).count ≡ count_on s.count
 count_on_lem s (Ok v) = refl
-count_on_lem s (Err f) = refl
+count_on_lem s (Err Misspelled) = refl
+count_on_lem s (Err Unread) = refl
 
 module _ (s : Lengths) (p : List ℕ) (h : length p < most) (holds : Holds s p) where
   counted_on : (i : Result ℕ Fault) → (lengths_on s i).count ≡ length (p ++ (number_in i ∷ []))
@@ -48,7 +50,8 @@ module _ (s : Lengths) (p : List ℕ) (h : length p < most) (holds : Holds s p) 
 
   listed_on : (i : Result ℕ Fault) → (lengths_on s i).list ≡ filled (p ++ (number_in i ∷ []))
   listed_on (Ok v) = rw (holds.count, holds.list, lt-ltb (length p) most h) (set_on p h v)
-  listed_on (Err f) = holds.list ∙ next_free p h ∙ filled_on p h 0
+  listed_on (Err Misspelled) = holds.list ∙ next_free p h ∙ filled_on p h 0
+  listed_on (Err Unread) = holds.list ∙ next_free p h ∙ filled_on p h 0
 
   on : (i : Result ℕ Fault) → Holds (lengths_on s i) (p ++ (number_in i ∷ []))
   on i = record { count = counted_on i; list = listed_on i }

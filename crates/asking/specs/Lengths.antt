@@ -22,7 +22,7 @@ number_in (Ok v) = v
 number_in (Err f) = 0
 
 abbrev pub no_lengths : Lengths
-no_lengths = record { count = 0; list = replicate (Limits.tables).to 0; spelled = Ok tt }
+no_lengths = record { count = 0; misspelled = false; unread = false; list = replicate (Limits.tables).to 0 }
 
 -- one more; one past the most tables of a call stands for all that are more
 abbrev pub count_on : ℕ → ℕ
@@ -34,12 +34,17 @@ fault_on (Ok u) f = f
 fault_on (Err Misspelled) f = f
 fault_on (Err Unread) f = Unread
 
+-- whether all are numbers: where none was not handed over and none is misspelled
+abbrev pub spelled : Lengths → Result (Unit {0}) Fault
+spelled s = cond s.unread (Err Unread) (cond s.misspelled (Err Misspelled) (Ok tt))
+
 -- with one argument more, and with all of a list
 abbrev pub lengths_on : Lengths → Result ℕ Fault → Lengths
 lengths_on s (Ok v) =
     let list : List ℕ = cond (ltb s.count (Limits.tables).to) (set s.list s.count v) s.list in
-    record { count = count_on s.count; list = list; spelled = s.spelled }
-lengths_on s (Err f) = record { count = count_on s.count; list = s.list; spelled = Err (fault_on s.spelled f) }
+    record { count = count_on s.count; misspelled = s.misspelled; unread = s.unread; list = list }
+lengths_on s (Err Misspelled) = record { count = count_on s.count; misspelled = true; unread = s.unread; list = s.list }
+lengths_on s (Err Unread) = record { count = count_on s.count; misspelled = s.misspelled; unread = true; list = s.list }
 
 abbrev pub lengths_by : Lengths → List (Result ℕ Fault) → Lengths
 lengths_by = fold lengths_on

@@ -1,4 +1,5 @@
 pub mod Instants
 pub mod Arguments
 pub mod Lengths
+pub mod Words
 pub mod Questions

@@ -1,7 +1,6 @@
 -- The question that the arguments ask.
-use Rattle.std.specs.Prelude.{◌≡◌, Bool, false, cond, List, [], ◌∷◌, map, ℕ, suc, eqb, leb, length, drop, get_or, Result, Ok, Err}
+use Rattle.std.specs.Prelude.{◌≡◌, Bool, false, cond, List, [], ◌∷◌, map, ℕ, suc, eqb, leb, length, take, drop, get_or, Result, Ok, Err}
 use Rattle.schedule.specs.Lists.{all?}
-use Rattle.format.specs.Bytes.{bytes}
 use Rattle.format.specs.Spelling.{Scan, read, wrong, text}
 use Rattle.asking.specs.declared.faults.Fault.{Fault}
 use Rattle.asking.specs.declared.faults.Fault.TheVariants.{Misspelled}
@@ -9,33 +8,10 @@ use Rattle.asking.specs.declared.questions.Question.TheVariants.{Report, Row, Re
 use Rattle.asking.specs.declared.questions.Account.{Account}
 use Rattle.asking.specs.declared.questions.Asked.{Asked}
 use Rattle.asking.specs.declared.lengths.Lengths.{Lengths}
+use Rattle.asking.specs.declared.rooms.Word.{Word}
 use Rattle.asking.specs.Instants.{at_end, instant_of}
-use Rattle.asking.specs.Lengths.{is_number, no_lengths, lengths_by}
-
--- the words
-abbrev pub row : List ℕ
-row = bytes "row"
-
-abbrev pub batch : List ℕ
-batch = bytes "batch"
-
-abbrev pub salvage : List ℕ
-salvage = bytes "salvage"
-
-abbrev pub fixes : List ℕ
-fixes = bytes "fixes"
-
-abbrev pub rewrite : List ℕ
-rewrite = bytes "rewrite"
-
-abbrev pub plain : List ℕ
-plain = bytes "plain"
-
-abbrev pub margin : List ℕ
-margin = bytes "margin"
-
-abbrev pub longest_word : ℕ
-longest_word = length salvage
+use Rattle.asking.specs.Lengths.{is_number, no_lengths, spelled, lengths_by}
+pub use Rattle.asking.specs.Words.{row, batch, salvage, fixes, rewrite, plain, margin, longest_word}
 
 module _ {A : Type 0} where
   abbrev pub wholly : Scan A → Bool
@@ -55,7 +31,7 @@ batch_asked_by (Ok u) = Ok Asked.Batch
 batch_asked_by (Err f) = Err f
 
 abbrev pub batch_asked : Lengths → Result Asked Fault
-batch_asked s = batch_asked_by s.spelled
+batch_asked s = batch_asked_by (spelled s)
 
 abbrev pub plain_asked : List ℕ → Result Asked Fault
 plain_asked w = cond (is_word plain w) (Ok (Asked.Answer PlainReport)) (Err Misspelled)
@@ -94,6 +70,10 @@ abbrev pub question_of : List (List ℕ) → Result Asked Fault
 question_of [] = Ok (Asked.Answer Report)
 question_of (w ∷ ts) = cond (is_word batch w) (cond (all? is_number ts) (Ok Asked.Batch) (Err Misspelled)) (text_question w ts)
 
+-- the bytes of a word in its room
+abbrev pub word_in : Word → List ℕ
+word_in w = take w.end w.room.now
+
 -- the same by what the system tells of the arguments: how many there are, with the program's own name; the first one, and the instant that the
 -- second spells; the second one, and the instant that the third spells; and the lengths that all from the second on spell
 abbrev pub text_asked_by : ℕ → List ℕ → Result ℕ Fault → List ℕ → Result ℕ Fault → Result Asked Fault
@@ -104,17 +84,18 @@ text_asked_by count word instant second later =
 abbrev pub asked : Account → Result Asked Fault
 asked told =
     cond (eqb told.count 1) (Ok (Asked.Answer Report))
-    (cond (is_word batch told.word.now) (batch_asked told.lengths) (text_asked_by told.count told.word.now told.instant told.second.now told.later))
+    (cond (is_word batch (word_in told.word)) (batch_asked told.lengths)
+    (text_asked_by told.count (word_in told.word) told.instant (word_in told.second) told.later))
 
 -- an argument in a room of its own: nothing, where it does not fit
 abbrev pub fitting : ℕ → List ℕ → List ℕ
 fitting room s = cond (leb (length s) room) s []
 
--- what the system told is true of the arguments: the first two in rooms of these sizes
-pub record Told (arguments : List (List ℕ)) (room second_room : ℕ) (told : Account) : Type 0 where
+-- what the system told is true of the arguments: the first two as far as their rooms go
+pub record Told (arguments : List (List ℕ)) (told : Account) : Type 0 where
   pub counted : told.count ≡ suc (length arguments)
-  pub word : told.word.now ≡ fitting room (get_or arguments 0 [])
+  pub word : word_in told.word ≡ fitting (length told.word.room.now) (get_or arguments 0 [])
   pub spelled : told.instant ≡ instant_of (get_or arguments 1 [])
-  pub word_behind : told.second.now ≡ fitting second_room (get_or arguments 1 [])
+  pub word_behind : word_in told.second ≡ fitting (length told.second.room.now) (get_or arguments 1 [])
   pub spelled_behind : told.later ≡ instant_of (get_or arguments 2 [])
   pub measured : told.lengths ≡ lengths_by no_lengths (map instant_of (drop 1 arguments))

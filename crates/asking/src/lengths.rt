@@ -1,18 +1,34 @@
 // The lengths that the arguments behind `batch` spell, argument by argument.
 ghost use Rattle.std.specs.Prelude.{◌≡◌};
-ghost use Rattle.asking.specs.Lengths.{no_lengths, count_on, fault_on, lengths_on};
+ghost use Rattle.asking.specs.Lengths.{no_lengths, count_on, lengths_on, spelled};
 
 use crate::faults::Fault;
 use table::Table;
 
-// How many there are, where one past the limit stands for all that are more; the first of them, with 0 for each that spells no number; and
-// whether all are numbers. The fault stands beside count and list, and not in their place, since `lengths_are` and `too_many_told` promise both
-// where some are none, too; and the list is an array of the most tables, since there is no heap.
+// How many there are, where one past the limit stands for all that are more; whether one is no number, and whether one was not handed over;
+// and the first of them, with 0 for each that spells no number. What is wrong stands beside count and list, and not in their place, since
+// `lengths_are` and `too_many_told` promise both where some are none, too; and the list is an array of the most tables, since there is no heap.
 #[derive(Clone, Copy)]
 pub struct Lengths {
     pub count: usize,
+    pub misspelled: bool,
+    pub unread: bool,
     pub list: [usize; Table::TABLES],
-    pub spelled: Result<(), Fault>,
+}
+
+impl Lengths {
+    // Whether all are numbers. An argument that was not handed over is told before one that is misspelled.
+    pub fn spelled(&self) -> Result<(), Fault>
+        ensures { result ≡ spelled self.now }
+    {
+        if self.unread {
+            Err(Fault::Unread)
+        } else if self.misspelled {
+            Err(Fault::Misspelled)
+        } else {
+            Ok(())
+        }
+    }
 }
 
 pub fn no_lengths() -> Lengths
@@ -20,8 +36,9 @@ pub fn no_lengths() -> Lengths
 {
     Lengths {
         count: 0,
+        misspelled: false,
+        unread: false,
         list: [0; Table::TABLES],
-        spelled: Ok(()),
     }
 }
 
@@ -32,16 +49,6 @@ pub fn one_more(count: usize) -> usize
         count + 1
     } else {
         count
-    }
-}
-
-// An argument that was not handed over is told before one that is misspelled.
-pub fn fault_on(spelled: Result<(), Fault>, fault: Fault) -> Fault
-    ensures { result ≡ fault_on spelled fault }
-{
-    match spelled {
-        Err(Fault::Unread) => Fault::Unread,
-        _ => fault,
     }
 }
 
@@ -57,9 +64,8 @@ pub fn lengths_on(s: Lengths, instant: Result<u32, Fault>) -> Lengths
                 t.list[at] = v as usize;
             }
         }
-        Err(fault) => {
-            t.spelled = Err(fault_on(s.spelled, fault));
-        }
+        Err(Fault::Misspelled) => t.misspelled = true,
+        Err(Fault::Unread) => t.unread = true,
     }
     t
 }

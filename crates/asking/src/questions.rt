@@ -1,9 +1,10 @@
 // The question that the arguments ask.
-ghost use Rattle.std.specs.Prelude.{◌≡◌, List, ℕ, ◌≤◌};
-ghost use Rattle.asking.specs.Questions.{longest_word, output_asked, asked, Told, question_of};
+ghost use Rattle.std.specs.Prelude.{◌≡◌, List, ℕ};
+ghost use Rattle.asking.specs.Questions.{output_asked, asked, Told, question_of};
 
 use crate::faults::Fault;
 use crate::lengths::Lengths;
+use crate::rooms::Word;
 use crate::words::{BATCH, FIXES, MARGIN, PLAIN, REWRITE, ROW, SALVAGE, is_word};
 
 #[derive(Clone, Copy)]
@@ -33,8 +34,8 @@ pub struct Account<'a> {
     // how many there are, the program's own name among them
     pub count: usize,
     // argument 1 and argument 2, each where it fits the room that it was put into, and else nothing
-    pub word: &'a [u8],
-    pub second: &'a [u8],
+    pub word: Word<'a>,
+    pub second: Word<'a>,
     // the instants that argument 2 and argument 3 spell
     pub instant: Result<u32, Fault>,
     pub later: Result<u32, Fault>,
@@ -71,13 +72,14 @@ pub fn asked_by(account: &Account) -> Result<Asked, Fault>
         later,
         lengths,
     } = *account;
+    let word = word.bytes();
     match count {
         1 => Ok(Asked::Answer(Question::Report)),
-        _ if is_word(word, BATCH) => lengths.spelled.map(|()| Asked::Batch),
+        _ if is_word(word, BATCH) => lengths.spelled().map(|()| Asked::Batch),
         2 => output_asked(word),
         3 if is_word(word, ROW) => instant.map(|t| Asked::Answer(Question::Row(t))),
         3 if is_word(word, MARGIN) => Ok(Asked::Margin),
-        4 if is_word(word, PLAIN) && is_word(second, ROW) => {
+        4 if is_word(word, PLAIN) && is_word(second.bytes(), ROW) => {
             later.map(|t| Asked::Answer(Question::PlainRow(t)))
         }
         _ => Err(Fault::Misspelled),
@@ -87,8 +89,7 @@ pub fn asked_by(account: &Account) -> Result<Asked, Fault>
 // What the arguments ask, by what the system tells of them; where that is true of them, it is their question.
 pub fn question_of(account: &Account) -> Result<Asked, Fault>
     ensures value { result ≡ asked account.now }
-    ensures by_index { (arguments : List (List ℕ)) (room second_room : ℕ) → longest_word ≤ room → longest_word ≤ second_room
-        → Told arguments room second_room account.now → result ≡ question_of arguments }
+    ensures by_index { (arguments : List (List ℕ)) → Told arguments account.now → result ≡ question_of arguments }
 {
     asked_by(account)
 }

@@ -8,7 +8,7 @@ ghost use Rattle.std.specs.Prelude.{◌≤◌, ◌<◌, length};
 ghost use Rattle.schedule.specs.Limits as Limits;
 ghost use Rattle.asking.specs.Questions.{longest_word};
 
-use asking::{Account, Asked, Fault, Lengths, Passed, Question, WORD_ROOM};
+use asking::{Account, Asked, Fault, Lengths, Passed, Question, WORD_ROOM, Word};
 use format::Refusal;
 use inputs::{Lack, PIECE, after_read, read_input, take_tables};
 use marginlines::MARGIN_BYTES;
@@ -124,11 +124,13 @@ fn instant_asked(rt: HostRuntime, i: usize) -> Result<u32, Fault> {
 }
 
 // A word that is put into a room: nothing, where it is missing or longer than the room. A room too short for a word of the program is refused.
-fn word_asked(rt: HostRuntime, i: usize, room: &mut [u8]) -> &[u8]
+fn word_asked(rt: HostRuntime, i: usize, room: &mut [u8]) -> Word<'_>
     requires { longest_word ≤ length room.old }
+    ensures whole { length result.room.now ≡ length room.old }
+    ensures within { result.end ≤ length room.old }
 {
-    let n = rt.arg(i, &mut *room).unwrap_or(0);
-    &room[..n]
+    let end = rt.arg(i, &mut *room).unwrap_or(0);
+    Word { room, end }
 }
 
 // How many arguments there are, the program's own name among them.

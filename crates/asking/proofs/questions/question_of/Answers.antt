@@ -4,5 +4,5 @@ use Rattle.asking.proofs.Asking.{asked_is}
 use Rattle.asking.proofs.questions.question_of.Goals as goal
 
 pub returns-clause-by_index : goal.returns-clause-by_index
-returns-clause-by_index c = λ arguments room second_room l k told.
-    c.asked_by.ensures ∙ asked_is arguments room second_room _ l k told
+returns-clause-by_index c = λ arguments told.
+    c.asked_by.ensures ∙ asked_is arguments _ told
