@@ -16,8 +16,7 @@ pub fn put_settled(
     figures: &[u32],
     limits: &[u32],
 ) -> Answer
-    requires graphs_bound { length figures.now ≤ (Limits.graphs).to }
-    requires one_limit_each { length limits.now ≡ length figures.now }
+    requires { length figures.now ≤ (Limits.graphs).to }
     ensures { called result buffer.new ≡ call_of buffer.old (says (margin_text round ticks figures.now limits.now)) }
 {
     let n = marginlines::margins_length(round, ticks, figures, limits);

@@ -1,3 +1,4 @@
 pub mod Lists
 pub mod Entries
 pub mod Shown
+pub mod Parts

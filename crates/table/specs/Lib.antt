@@ -1,3 +1,4 @@
 pub mod Limits
 pub mod Keys
 pub mod Fresh
+pub mod Parts

@@ -3,6 +3,7 @@
 #![tactic(auto)]
 
 mod keyed;
+mod parts;
 
 ghost use Rattle.std.specs.Prelude.{◌≡◌, ◌≤◌, length, MatchOption};
 ghost use Rattle.format.specs.Keys.{key_at, keys};

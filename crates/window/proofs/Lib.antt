@@ -31,3 +31,4 @@ pub mod Boundaries
 pub mod Ends
 pub mod Walked
 pub mod Chains
+pub mod Parts

@@ -16,19 +16,15 @@ fit round ticks fs ls buf h = omega (arith, ap length (head_first round ticks fs
 
 pub put_report-at-requires : goal.put_report-at-requires
 put_report-at-requires c =
-    omega (arith, fit c.args.round c.args.ticks c.args.figures.now c.args.limits.now c.args.buf.now c.requires.limits_in_bounds)
+    omega (arith, fit c.args.round c.args.ticks c.args.figures.now c.args.limits.now c.args.buf.now c.requires)
 
 pub put_graphs-requires : goal.put_graphs-requires
 put_graphs-requires c =
-    record {
-      one_limit_each = c.requires.one_limit_each;
-      limits_in_bounds =
-          room (margin_lines c.args.figures.now c.args.limits.now) c.put_report-at.ensures
-          (fit c.args.round c.args.ticks c.args.figures.now c.args.limits.now c.args.buf.now c.requires.limits_in_bounds);
-    }
+    room (margin_lines c.args.figures.now c.args.limits.now) c.put_report-at.ensures
+    (fit c.args.round c.args.ticks c.args.figures.now c.args.limits.now c.args.buf.now c.requires)
 
 pub returns : goal.returns
 returns c =
     named (head_first c.args.round c.args.ticks c.args.figures.now c.args.limits.now)
     (both (margin_lines c.args.figures.now c.args.limits.now) c.put_report-at.ensures
-    (fit c.args.round c.args.ticks c.args.figures.now c.args.limits.now c.args.buf.now c.requires.limits_in_bounds) c.put_graphs.ensures)
+    (fit c.args.round c.args.ticks c.args.figures.now c.args.limits.now c.args.buf.now c.requires) c.put_graphs.ensures)
