@@ -4,7 +4,7 @@
 // what was changed. With `margin FILE` the margins against the limits in the file are printed.
 #![tactic(auto)]
 
-ghost use Rattle.std.specs.Prelude.{◌≤◌, ◌<◌, length};
+ghost use Rattle.std.specs.Prelude.{◌≡◌, ◌≤◌, ◌<◌, length};
 ghost use Rattle.schedule.specs.Limits as Limits;
 ghost use Rattle.asking.specs.Questions.{longest_word};
 
