@@ -16,19 +16,14 @@ use rules::Answer;
 pub fn read(bytes: &[u8]) -> Result<PhalandrixTable, Refusal>
     ensures { result ≡ read_table (read_of bytes.now) }
 {
-    // Not `?`, which would put more copies of the table on the stack.
-    match table_read(bytes) {
-        Ok((table, _)) => Ok(plain_of(table)),
-        Err(f) => Err(f),
-    }
+    let (table, _) = table_read(bytes)?;
+    Ok(plain_of(table))
 }
 
 // What the program prints for `rewrite`: a legal table's own bytes, or refusal 1 to 4.
 pub fn rewrite(bytes: &[u8], buffer: &mut [u8]) -> Answer
     ensures { called result buffer.new ≡ call_of buffer.old (rewrite_of bytes.now) }
 {
-    match read(bytes) {
-        Ok(table) => write(table, buffer),
-        Err(f) => Err(f),
-    }
+    let table = read(bytes)?;
+    write(table, buffer)
 }

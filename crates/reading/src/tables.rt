@@ -94,11 +94,8 @@ pub fn graph_nodes(lines: &mut Lines, t: Table, head: Three) -> Result<Table, Re
         let column = value_column(Key::Nodes);
         return Err(Refusal::OutsideLimits { line, column });
     }
-    // Not `?`, which would put more copies of the nodes on the stack; nor at the graphs below.
-    match nodes_at(lines, t.node, t.nodes, n) {
-        Ok(taken) => graph_ended(t, head, taken, lines.place.line),
-        Err(f) => Err(f),
-    }
+    let taken = nodes_at(lines, t.node, t.nodes, n)?;
+    graph_ended(t, head, taken, lines.place.line)
 }
 
 // (That there is room for a graph stands in these contracts and not in the type: a `Table` that is read to its end may have none.)
@@ -116,10 +113,7 @@ pub fn graphs_at(lines: &mut Lines, t: Table, n: u32) -> Result<Table, Refusal>
 {
     let mut u = t;
     for _ in 0..n {
-        u = match graph_at(lines, u) {
-            Ok(v) => v,
-            Err(f) => return Err(f),
-        };
+        u = graph_at(lines, u)?;
     }
     Ok(u)
 }
@@ -134,10 +128,7 @@ pub fn table_read(s: &[u8]) -> Result<(Table, Place), Refusal>
     let mut lines = Lines::new(s);
     let head = lines.three(Key::Processors, Key::Rounds, Key::Graphs, 0)?;
     let none = Table::empty(head.first, head.second);
-    let t = match graphs_at(&mut lines, none, head.third) {
-        Ok(t) => t,
-        Err(f) => return Err(f),
-    };
+    let t = graphs_at(&mut lines, none, head.third)?;
     lines.end()?;
     Ok((t, lines.place))
 }

@@ -1,5 +1,6 @@
 -- `graph_nodes` meets its contract.
 use Rattle.std.proofs.Common.{ℕ, ◌-◌, refl, sym, ◌∙◌, ap, arith}
+use Rattle.std.proofs.lemmas.Result.{err_from_is_err_and}
 use Rattle.rules.proofs.Outcomes.{told}
 use Rattle.rules.proofs.ReadWellFormed.{nodes_holds}
 use Rattle.format.specs.declared.Refusal.TheVariants.{OutsideLimits}
@@ -22,29 +23,31 @@ returns-then-t-n-gt-SERVERS c =
       text = refl;
     }
 
-pub returns-in-Err : goal.returns-in-Err
-returns-in-Err c =
+pub returns-in_err-taken : goal.returns-in_err-taken
+returns-in_err-taken c =
     let t = c.args.t in
     let h = c.args.head in
     let P = stands c.args.lines.now in
-    let e = c.in-Err.ensures in
-    record {
+    let p = err_from_is_err_and c.from_residual.result c.from_residual.ensures.1 in
+    let e = c.in_err-taken.ensures in
+    rw (p.1, p.2)
+    (record {
       came = sym (ap (map_outcome (with_graph t))
           (nodes_refused t.nodes h.first h.second h.third (P.line - 1) P (omega arith) _ (image_refused (taken t.node t.nodes 0) (nodes_from 1 h.third P) _ e.came)));
       text = e.text;
-    }
+    })
 
-pub returns-in-Ok : goal.returns-in-Ok
-returns-in-Ok c =
+pub returns : goal.returns
+returns c =
     let t = c.args.t in
     let h = c.args.head in
     let P = stands c.args.lines.now in
     let Q = stands c.nodes_at.new.lines in
-    let e = c.in-Ok.ensures in
-    let (xs, d, f) = image_done (taken t.node t.nodes 0) (nodes_from 1 h.third P) c.in-Ok.taken Q e.came in
+    let e = c.in_ok-taken.ensures in
+    let (xs, d, f) = image_done (taken t.node t.nodes 0) (nodes_from 1 h.third P) c.in_ok-taken.taken Q e.came in
     let w = told _ d (nodes_holds 1 h.third P) in
     record {
-      came = ap (came_to Q) c.graph_ended.ensures ∙ ended_graph_lem t h xs c.in-Ok.taken w.1 f (omega arith) w.0 Q
+      came = ap (came_to Q) c.graph_ended.ensures ∙ ended_graph_lem t h xs c.in_ok-taken.taken w.1 f (omega arith) w.0 Q
           ∙ sym (ap (map_outcome (with_graph t)) (nodes_done t.nodes h.first h.second h.third (P.line - 1) P (omega arith) xs Q d));
       text = e.text;
     }

@@ -1,5 +1,6 @@
 -- `graphs_at` meets its contract: at each turn the graphs that are left go into the table so far.
 use Rattle.std.proofs.Common.{◌+◌, ◌-◌, length, sym, ◌∙◌, ap, arith}
+use Rattle.std.proofs.lemmas.Result.{err_from_is_err_and}
 use Rattle.theorems.proofs.Formed.{within_limits, graph_formed_lem}
 use Rattle.rules.proofs.Outcomes.{told}
 use Rattle.rules.proofs.ReadWellFormed.{graph_holds}
@@ -15,15 +16,17 @@ use Rattle.reading.proofs.tables.graphs_at.Goals as goal
 pub graph_at-requires : goal.graph_at-requires
 graph_at-requires c = (omega arith, omega arith)
 
-pub returns-in-Err : goal.returns-in-Err
-returns-in-Err c =
+pub returns-in_err-u : goal.returns-in_err-u
+returns-in_err-u c =
     let st = c.loop in
     let P = stands st.lines in
-    let e = c.in-Err.ensures in
-    record {
+    let p = err_from_is_err_and c.from_residual.result c.from_residual.ensures.1 in
+    let e = c.in_err-u.ensures in
+    rw (p.1, p.2)
+    (record {
       came = sym (st.invariant.3 ∙ graphs_refused st.u c.args.n st.counter P (omega arith) _ (image_refused (with_graph st.u) (graph st.u.nodes P) _ e.came));
       text = e.text ∙ st.invariant.2;
-    }
+    })
 
 pub loop-preserved : goal.loop-preserved
 loop-preserved c =
@@ -31,8 +34,8 @@ loop-preserved c =
     let n = c.args.n in
     let P = stands st.lines in
     let Q = stands c.graph_at.new.lines in
-    let e = c.in-Ok.ensures in
-    let (G, d, f) = image_done (with_graph st.u) (graph st.u.nodes P) c.in-Ok.v Q e.came in
+    let e = c.in_ok-u.ensures in
+    let (G, d, f) = image_done (with_graph st.u) (graph st.u.nodes P) c.in_ok-u.u Q e.came in
     let w = told _ d (graph_holds st.u.nodes P) in
     let few = (within_limits Limits.nodes (length G.nodes) (graph_formed_lem G w.0).few).1 in
     let k = ap (λ (m : Memory). m.graphs) f in

@@ -43,16 +43,17 @@ graphs_at-requires c =
     let n = ap (λ (m : Memory). m.nodes) c.empty-none.ensures in
     (omega (arith, l.1), omega arith)
 
-pub returns-in-Err : goal.returns-in-Err
+pub returns-in_err-t : goal.returns-in_err-t
 unfolding read_of
-returns-in-Err c =
+returns-in_err-t c =
     let s = c.args.s.now in
     let P : Place = record { line = 1; bytes = s } in
     let h = c.in_ok-head.head in
     let Q = stands c.three.new.self in
+    let p = err_from_is_err_and c.from_residual-in_err-t.result c.from_residual-in_err-t.ensures.1 in
     let e = c.in_ok-head.ensures.read.came ∙ ap (three_lines Keys.processors Keys.rounds Keys.graphs 0) c.new-lines.ensures.place in
-    let g = c.in-Err.ensures.came ∙ ap (λ (m : Memory). map_outcome (with_graphs m) (graphs_from m.nodes h.third Q)) c.empty-none.ensures in
-    rw (le-leb (length s) (Limits.table_bytes).to (omega arith), table_three P, ← e)
+    let g = c.in_err-t.ensures.came ∙ ap (λ (m : Memory). map_outcome (with_graphs m) (graphs_from m.nodes h.third Q)) c.empty-none.ensures in
+    rw (p.1, p.2, le-leb (length s) (Limits.table_bytes).to (omega arith), table_three P, ← e)
     (ap go_on g ∙ sym (ended_map h.first h.second (graphs_from 0 h.third Q)))
 
 pub returns-in_err-end : goal.returns-in_err-end
@@ -61,11 +62,11 @@ returns-in_err-end c =
     let s = c.args.s.now in
     let P : Place = record { line = 1; bytes = s } in
     let h = c.in_ok-head.head in
-    let t = c.in-Ok.t in
+    let t = c.in_ok-t.t in
     let Q = stands c.three.new.self in
     let p = err_from_is_err_and c.from_residual-in_err-end.result c.from_residual-in_err-end.ensures.1 in
     let e = c.in_ok-head.ensures.read.came ∙ ap (three_lines Keys.processors Keys.rounds Keys.graphs 0) c.new-lines.ensures.place in
-    let g = c.in-Ok.ensures.came ∙ ap (λ (m : Memory). map_outcome (with_graphs m) (graphs_from m.nodes h.third Q)) c.empty-none.ensures in
+    let g = c.in_ok-t.ensures.came ∙ ap (λ (m : Memory). map_outcome (with_graphs m) (graphs_from m.nodes h.third Q)) c.empty-none.ensures in
     rw (p.1, p.2, le-leb (length s) (Limits.table_bytes).to (omega arith), table_three P, ← e)
     (ap (map_outcome (λ (u : Unit {0}). t)) c.in_err-end.ensures.came ∙ sym (ended_alike t (stands c.graphs_at.new.lines)) ∙ ap go_on g
     ∙ sym (ended_map h.first h.second (graphs_from 0 h.third Q)))
@@ -76,11 +77,11 @@ returns c =
     let s = c.args.s.now in
     let P : Place = record { line = 1; bytes = s } in
     let h = c.in_ok-head.head in
-    let t = c.in-Ok.t in
+    let t = c.in_ok-t.t in
     let Q = stands c.three.new.self in
     let e = c.in_ok-head.ensures.read.came ∙ ap (three_lines Keys.processors Keys.rounds Keys.graphs 0) c.new-lines.ensures.place in
-    let g = c.in-Ok.ensures.came ∙ ap (λ (m : Memory). map_outcome (with_graphs m) (graphs_from m.nodes h.third Q)) c.empty-none.ensures in
-    let same = c.in-Ok.ensures.text ∙ c.in_ok-head.ensures.read.text ∙ c.new-lines.ensures.text in
+    let g = c.in_ok-t.ensures.came ∙ ap (λ (m : Memory). map_outcome (with_graphs m) (graphs_from m.nodes h.third Q)) c.empty-none.ensures in
+    let same = c.in_ok-t.ensures.text ∙ c.in_ok-head.ensures.read.text ∙ c.new-lines.ensures.text in
     rw (le-leb (length s) (Limits.table_bytes).to (omega arith), table_three P, ← e)
     (ap (λ (b : Bor (List ℕ)). done t (place_of b.now c.graphs_at.new.lines.place)) (sym same)
     ∙ ap (map_outcome (λ (u : Unit {0}). t)) c.in_ok-end.ensures.came ∙ sym (ended_alike t (stands c.graphs_at.new.lines)) ∙ ap go_on g
