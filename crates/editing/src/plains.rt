@@ -1,6 +1,6 @@
 // A table that was read, in the form without derived fields. By functions and not by `From`: both types of each are other crates'.
 ghost use Rattle.std.specs.Prelude.{◌≡◌};
-ghost use Rattle.editing.specs.Plains.{count_of, plain_graph, plain_node, plain_of};
+ghost use Rattle.editing.specs.Plains.{count_of, plain_graph, plain_node, plain_graphs, plain_nodes, plain_of};
 
 use memory::{PhalandrixGraph, PhalandrixNode, PhalandrixTable};
 use table::{Graph, Node, Table};
@@ -32,6 +32,37 @@ pub fn plain_node(x: Node) -> PhalandrixNode
     }
 }
 
+// Loops, and not the `map` of an array, which takes 3 kB of stack here and more time.
+pub fn graphs_of(graphs: &[Graph; Table::GRAPHS]) -> [PhalandrixGraph; Table::GRAPHS]
+    ensures { result ≡ plain_graphs graphs.now }
+{
+    let none = PhalandrixGraph {
+        period: 0,
+        offset: 0,
+        nodes: 0,
+    };
+    let mut list = [none; Table::GRAPHS];
+    for g in 0..Table::GRAPHS {
+        list[g] = plain_graph(graphs[g]);
+    }
+    list
+}
+
+pub fn nodes_of(nodes: &[Node; Table::SERVERS]) -> [PhalandrixNode; Table::SERVERS]
+    ensures { result ≡ plain_nodes nodes.now }
+{
+    let none = PhalandrixNode {
+        budget: 0,
+        level: 0,
+        after: 0,
+    };
+    let mut list = [none; Table::SERVERS];
+    for i in 0..Table::SERVERS {
+        list[i] = plain_node(nodes[i]);
+    }
+    list
+}
+
 pub fn plain_of(t: Table) -> PhalandrixTable
     ensures { result ≡ plain_of t }
 {
@@ -39,7 +70,7 @@ pub fn plain_of(t: Table) -> PhalandrixTable
         processors: t.processors,
         rounds: t.rounds,
         graphs: counted(t.graphs),
-        graph: t.graph.map(plain_graph),
-        node: t.node.map(plain_node),
+        graph: graphs_of(&t.graph),
+        node: nodes_of(&t.node),
     }
 }
